@@ -1,0 +1,97 @@
+-- Laws of lists that the kit lacks.
+-- Assumes nothing.
+use Prim.Native.Nat.{ℕ, zero, suc, _+_, _-_, _≤_, _<_}
+use mathlib.Core.Path.{_≡_, refl, sym, ap, _∙_}
+use mathlib.Core.List.{List, [], _∷_, _++_, append-nil, append-assoc}
+use mathlib.Core.Logic.{_⊎_, inl, inr}
+use native.Mathlib.Nat.{not-suc-le-zero, le-of-suc-le-suc, add-zero}
+use native.Mathlib.Numerals.{add-one}
+use native.Mathlib.Decide.{decLe}
+use native.Mathlib.Omega.{arith}
+use lib.ListN.{length, take, drop, getD, set, replicate, length-append, length-take, length-drop}
+use lib.Seq.{take-all, take-at, drop-at, take-add, drop-append-add, drop-drop, length-take-le, getD-append-add, getD-drop}
+use Rattle.octets.specs.Bytes.{filled, placed}
+
+pub drop-all : (n : ℕ) (l : List ℕ) → length l ≤ n → drop n l ≡ []
+drop-all zero [] h = refl
+drop-all zero (x ∷ l) h = absurd (not-suc-le-zero h)
+drop-all (suc n) [] h = refl
+drop-all (suc n) (x ∷ l) h = drop-all n l (le-of-suc-le-suc h)
+
+pub le-or-lt : (m n : ℕ) → (m ≤ n) ⊎ (n < m)
+le-or-lt m n = go (decLe m n)
+  where
+    go : Dec (m ≤ n) → (m ≤ n) ⊎ (n < m)
+    go (yes h) = inl h
+    go (no h) = inr (omega arith)
+
+-- What stands after the first k places, when these are replaced.
+pub drop-front : (a d : List ℕ) (k m : ℕ) → length a ≡ k → k ≤ m → drop m (a ++ drop k d) ≡ drop m d
+drop-front a d k m e h =
+    let p : m ≡ length a + (m - k) = omega arith in
+    let q : k + (m - k) ≡ m = omega arith in
+    ap (λ (x : ℕ). drop x (a ++ drop k d)) p ∙ drop-append-add a (drop k d) (m - k) ∙ drop-drop (m - k) k d ∙ ap (λ (x : ℕ). drop x d) q
+
+-- ---- a buffer that is filled from the front
+
+pub filled-length : (s d : List ℕ) (i : ℕ) → i ≤ length s → i ≤ length d → length (filled s i d) ≡ length d
+filled-length s d i h k = simp (length-append, length-take, length-drop) (omega arith)
+
+-- One store more.
+pub fill-one : (s d : List ℕ) (i v : ℕ) → i < length s → i < length d → v ≡ getD s i 0 → set (filled s i d) i v ≡ filled s (i + 1) d
+fill-one s d i v h k e = rw (e, add-one) (go s d i h k)
+  where
+    go : (s d : List ℕ) (i : ℕ) → i < length s → i < length d → set (filled s i d) i (getD s i 0) ≡ filled s (suc i) d
+    go [] d i h k = absurd (not-suc-le-zero h)
+    go (x ∷ s) [] i h k = absurd (not-suc-le-zero k)
+    go (x ∷ s) (y ∷ d) zero h k = refl
+    go (x ∷ s) (y ∷ d) (suc i) h k = ap (λ (l : List ℕ). x ∷ l) (go s d i (le-of-suc-le-suc h) (le-of-suc-le-suc k))
+
+-- What is not filled yet is as it was.
+pub filled-at : (s d : List ℕ) (i : ℕ) → i ≤ length s → getD (filled s i d) i 0 ≡ getD d i 0
+filled-at s d i h =
+    let e : i ≡ length (take i s) + 0 = sym (add-zero (length (take i s)) ∙ length-take-le i s h) in
+    ap (λ (k : ℕ). getD (filled s i d) k 0) e ∙ getD-append-add (take i s) (drop i d) 0 0 ∙ getD-drop i d 0 0 ∙ ap (λ (k : ℕ). getD d k 0) (add-zero i)
+
+-- A buffer that is filled to its end.
+pub filled-all : (s d : List ℕ) (i : ℕ) → length s ≤ i → length d ≤ i → filled s i d ≡ s
+filled-all s d i h k = rw (take-all i s h, drop-all i d k, append-nil)
+
+-- The w places from i on become p.
+pub fill-part : (s d p : List ℕ) (i w : ℕ) → i + w ≤ length s → i + w ≤ length d → p ≡ take w (drop i s)
+    → take i (filled s i d) ++ (p ++ drop (i + w - i) (drop i (filled s i d))) ≡ filled s (i + w) d
+fill-part s d p i w k l q =
+    let n : length (take i s) ≡ i = length-take-le i s (omega arith) in
+    let a : take i (filled s i d) ≡ take i s = take-at (take i s) (drop i d) i n in
+    let b : drop i (filled s i d) ≡ drop i d = drop-at (take i s) (drop i d) i n in
+    let e : i + w - i ≡ w = omega arith in
+    let f : take i s ++ p ≡ take (i + w) s = ap (λ (l : List ℕ). take i s ++ l) q ∙ sym (take-add i w s) in
+    rw (a, b, e, drop-drop, ← append-assoc, f)
+
+-- The part from a place to the end.
+pub part-rest : (l : List ℕ) (n a : ℕ) → length l ≡ n → take (n - a) (drop a l) ≡ drop a l
+part-rest l n a h = take-all (n - a) (drop a l) (rw length-drop (omega arith))
+
+-- What is written over the whole of a buffer.
+pub placed-all : (s d : List ℕ) → length d ≡ length s → placed s 0 d ≡ s
+placed-all s d h = ap (λ (l : List ℕ). s ++ l) (drop-all (0 + length s) d (omega arith)) ∙ append-nil s
+
+-- ---- zeros
+
+pub drop-replicate : (n m x : ℕ) → n ≤ m → drop n (replicate m x) ≡ replicate (m - n) x
+drop-replicate zero m x h = let e : m ≡ m - 0 = omega arith in ap (λ (k : ℕ). replicate k x) e
+drop-replicate (suc n) zero x h = absurd (not-suc-le-zero h)
+drop-replicate (suc n) (suc m) x h =
+    let e : m - n ≡ suc m - suc n = omega arith in
+    drop-replicate n m x (le-of-suc-le-suc h) ∙ ap (λ (k : ℕ). replicate k x) e
+
+-- ---- a list written out
+
+abbrev pub tab : ℕ → (ℕ → ℕ) → List ℕ
+tab zero f = []
+tab (suc n) f = f 0 ∷ tab n (λ k. f (suc k))
+
+pub take-tab : (n : ℕ) (l : List ℕ) → n ≤ length l → take n l ≡ tab n (λ k. getD l k 0)
+take-tab zero l h = refl
+take-tab (suc n) [] h = absurd (not-suc-le-zero h)
+take-tab (suc n) (x ∷ l) h = ap (λ (t : List ℕ). x ∷ t) (take-tab n l (le-of-suc-le-suc h))

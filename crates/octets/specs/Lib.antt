@@ -1,0 +1,4 @@
+pub mod Bytes
+pub mod Xors
+pub mod BigEndian
+pub mod Words

@@ -1,0 +1,3 @@
+// Byte strings in slices, and words of four bytes.
+pub mod slice;
+pub mod word;

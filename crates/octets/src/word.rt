@@ -1,0 +1,45 @@
+// A word and its bytes, the first byte the highest.
+ghost use mathlib.Core.Path.{_≡_};
+ghost use Prim.Native.Nat.{_≤_, _+_};
+ghost use lib.ListN.{length, getD};
+ghost use Rattle.octets.specs.Words.{HasBytes, word, wordAt, b0, b1, b2, b3};
+
+pub fn join(a: u8, b: u8, c: u8, d: u8) -> u32
+    ensures { λ r. ⌜ r ≡ word a b c d ⌝ }
+    ensures { λ r. ⌜ HasBytes r a b c d ⌝ }
+{
+    (a as u32) * 16777216 + (b as u32) * 65536 + (c as u32) * 256 + (d as u32)
+}
+
+pub fn byte0(w: u32) -> u8
+    ensures { λ r. ⌜ r ≡ b0 w ⌝ }
+{
+    (w / 16777216) as u8
+}
+
+pub fn byte1(w: u32) -> u8
+    ensures { λ r. ⌜ r ≡ b1 w ⌝ }
+{
+    (w / 65536 % 256) as u8
+}
+
+pub fn byte2(w: u32) -> u8
+    ensures { λ r. ⌜ r ≡ b2 w ⌝ }
+{
+    (w / 256 % 256) as u8
+}
+
+pub fn byte3(w: u32) -> u8
+    ensures { λ r. ⌜ r ≡ b3 w ⌝ }
+{
+    (w % 256) as u8
+}
+
+// The word of the four bytes of s at a place.
+pub fn word_at(s: &[u8], at: usize) -> u32
+    requires { ⌜ at + 4 ≤ length (now s) ⌝ }
+    ensures { λ r. ⌜ r ≡ wordAt (now (s .entry)) at ⌝ }
+    ensures { λ r. ⌜ HasBytes r (getD (now (s .entry)) at 0) (getD (now (s .entry)) (at + 1) 0) (getD (now (s .entry)) (at + 2) 0) (getD (now (s .entry)) (at + 3) 0) ⌝ }
+{
+    join(s[at], s[at + 1], s[at + 2], s[at + 3])
+}
