@@ -1,0 +1,3 @@
+pub mod SBoxRule
+pub mod RoundTableRule
+pub mod Vectors
