@@ -1,0 +1,83 @@
+-- Opening is a partial inverse of sealing, over any block cipher on 16 bytes.
+-- Assumes nothing.
+use Prim.Native.Nat.{ℕ, zero, suc, _+_, _-_, _*_, _/_, _<_, _≤_}
+use mathlib.Core.Path.{_≡_, refl, sym, _∙_, ap, ap₂}
+use mathlib.Core.Bool.{true}
+use mathlib.Core.List.{List, _++_}
+use native.Mathlib.Omega.{arith}
+use lib.ListN.{length, take, drop, length-append, take-append-drop}
+use lib.Seq.{take-at, drop-at, length-take-le}
+use Rattle.octets.specs.Bytes.{same}
+use Rattle.octets.specs.Xors.{xors}
+use Rattle.octets.specs.BigEndian.{be}
+use Rattle.octets.proofs.BigEndian.{length-be}
+use Rattle.octets.proofs.Equality.{same-self, same-eq}
+use Rattle.octets.proofs.Xors.{xors-twice}
+use Rattle.gcm.specs.Gcm.{blocks, keystream, gctr, crypt, subkey, hashed, inc32, j0, tag, seal, ciphertextOf, tagOf, good, plain}
+use Rattle.gcm.specs.Statements.{SealedOpens, OpenedWasSealed, Lengths}
+use Rattle.gcm.proofs.Keystream.{length-keystream, length-gctr, length-crypt}
+
+module _ (e : List ℕ → List ℕ) (le : (s : List ℕ) → length (e s) ≡ 16) where
+  again : (c s t : List ℕ) → length t ≡ length s → t ≡ gctr e c s → gctr e c t ≡ s
+  unfolding gctr
+  again c s t l p =
+      ap₂ (λ (x : List ℕ) (n : ℕ). xors x (keystream e c (blocks n))) p l
+      ∙ xors-twice s (keystream e c (blocks (length s))) (omega (arith, length-keystream e le c (blocks (length s))))
+
+  pub gctr-twice : (c s : List ℕ) → gctr e c (gctr e c s) ≡ s
+  gctr-twice c s = again c s (gctr e c s) (length-gctr e le c s) refl
+
+  pub crypt-twice : (iv s : List ℕ) → crypt e iv (crypt e iv s) ≡ s
+  unfolding crypt
+  crypt-twice iv s = gctr-twice (inc32 (j0 iv)) s
+
+  pub length-tag : (iv a c : List ℕ) → length (tag e iv a c) ≡ 16
+  unfolding tag
+  length-tag iv a c = length-gctr e le (j0 iv) (be 16 (hashed (subkey e) a c)) ∙ length-be 16 (hashed (subkey e) a c)
+
+  -- ---- what is sealed
+
+  module _ (iv a p : List ℕ) where
+    pub length-seal : length (seal e iv a p) ≡ length p + 16
+    unfolding seal
+    length-seal = length-append (crypt e iv p) (tag e iv a (crypt e iv p)) ∙ ap₂ (λ (x y : ℕ). x + y) (length-crypt e le iv p) (length-tag iv a (crypt e iv p))
+
+    text : take (length (seal e iv a p) - 16) (seal e iv a p) ≡ crypt e iv p
+    unfolding seal
+    text = take-at (crypt e iv p) (tag e iv a (crypt e iv p)) (length (seal e iv a p) - 16) (omega (arith, length-crypt e le iv p, length-seal))
+
+    end : drop (length (seal e iv a p) - 16) (seal e iv a p) ≡ tag e iv a (crypt e iv p)
+    unfolding seal
+    end = drop-at (crypt e iv p) (tag e iv a (crypt e iv p)) (length (seal e iv a p) - 16) (omega (arith, length-crypt e le iv p, length-seal))
+
+    pub good-seal : good e iv a (seal e iv a p) ≡ true
+    unfolding good
+    good-seal = ap₂ (λ (x y : List ℕ). same (tag e iv a x) y) text end ∙ same-self (tag e iv a (crypt e iv p))
+
+    pub plain-seal : plain e iv (seal e iv a p) ≡ p
+    unfolding plain
+    plain-seal = ap (crypt e iv) text ∙ crypt-twice iv p
+
+  -- ---- what opens
+
+  pub length-plain : (iv s : List ℕ) → length (plain e iv s) ≡ length s - 16
+  unfolding plain
+  length-plain iv s = length-crypt e le iv (take (length s - 16) s) ∙ length-take-le (length s - 16) s (omega arith)
+
+  pub seal-plain : (iv a s : List ℕ) → good e iv a s ≡ true → s ≡ seal e iv a (plain e iv s)
+  unfolding good plain seal
+  seal-plain iv a s h =
+      let n = length s - 16 in
+      let t = same-eq (tag e iv a (take n s)) (drop n s) h in
+      sym (rw (crypt-twice iv (take n s)) (ap (λ (x : List ℕ). take n s ++ x) t ∙ take-append-drop n s))
+
+-- ---- the statements
+
+pub sealed-opens : SealedOpens
+sealed-opens e le iv a p = (good-seal e le iv a p, plain-seal e le iv a p)
+
+pub opened-was-sealed : OpenedWasSealed
+opened-was-sealed e le iv a s h = seal-plain e le iv a s h
+
+pub lengths : Lengths
+lengths e le iv a p = (length-seal e le iv a p, length-plain e le iv p)

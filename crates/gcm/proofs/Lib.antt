@@ -1,0 +1,6 @@
+pub mod Halves
+pub mod Counters
+pub mod Hashing
+pub mod Keystream
+pub mod Laws
+pub mod Vectors

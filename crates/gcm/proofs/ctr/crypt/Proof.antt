@@ -1,0 +1,135 @@
+-- `crypt`: after each turn the first j bytes of out are those of the text.
+-- One part more of the text, of n bytes that lie in one block.
+-- Assumes nothing.
+use Prim.Native.Nat.{ℕ, _+_, _-_, _/_, _%_, _^_, _≤_}
+use mathlib.Core.Path.{_≡_, refl, sym, _∙_, ap, ap₂}
+use mathlib.Core.List.{List, _++_, append-nil}
+use borrow.Author.Needs.{needs}
+use native.Mathlib.Omega.{arith}
+use lib.ListN.{length, take, drop, length-drop}
+use lib.Seq.{drop-drop, drop-length}
+use Rattle.octets.specs.Bytes.{filled}
+use Rattle.octets.specs.Xors.{xors}
+use Rattle.octets.proofs.Lists.{fill-part, filled-length}
+use Rattle.aes_spec.specs.Cipher.{cipher}
+use Rattle.aes.proofs.Ciphers.{length-cipher}
+use Rattle.gcm.specs.Gcm as spec
+use Rattle.gcm.proofs.Counters.{cb}
+use Rattle.gcm.proofs.Keystream.{crypt-part, length-crypt}
+use Rattle.gcm.proofs.ctr.crypt.Statement.{statement}
+use Rattle.gcm.proofs.ctr.crypt.Tie as tie
+
+step : (w nonce src d out : List ℕ) (lo j n : ℕ) {k part : List ℕ}
+    → length nonce ≡ 12 → length src ≤ 2 ^ 36 - 32 → lo + length d ≤ length src → j + n ≤ length d → (lo + j) % 16 + n ≤ 16
+    → out ≡ filled (drop lo (spec.crypt (cipher 14 w) nonce src)) j d
+    → k ≡ cipher 14 w (cb nonce ((lo + j) / 16 + 2))
+    → part ≡ xors (take (lo + j + n - (lo + j)) (drop (lo + j) src)) (drop ((lo + j) % 16) k)
+    → (length (take j out ++ (part ++ drop (j + n - j) (drop j out))) ≡ length d)
+    × (take j out ++ (part ++ drop (j + n - j) (drop j out)) ≡ filled (drop lo (spec.crypt (cipher 14 w) nonce src)) (j + n) d)
+step w nonce src d out lo j n {k} {part} a b h i m e f g =
+    let c = cipher 14 w in
+    let text = spec.crypt c nonce src in
+    let t = drop lo text in
+    let l : length t ≡ length src - lo = length-drop lo text ∙ ap (λ (x : ℕ). x - lo) (length-crypt c (length-cipher 14 w) nonce src) in
+    let q : lo + j + n - (lo + j) ≡ n = omega arith in
+    let p : part ≡ take n (drop j t) =
+    g ∙ ap₂ (λ (x : ℕ) (y : List ℕ). xors (take x (drop (lo + j) src)) (drop ((lo + j) % 16) y)) q f
+    ∙ crypt-part c (length-cipher 14 w) nonce a src (lo + j) n b (omega arith) m ∙ ap (take n) (sym (drop-drop j lo text)) in
+    let r = ap (λ (x : List ℕ). take j x ++ (part ++ drop (j + n - j) (drop j x))) e ∙ fill-part t d part j n (omega arith) i p in
+    (ap length r ∙ filled-length t d (j + n) (omega arith) i, r)
+
+abbrev Inv-loop : tie.InvT-loop
+Inv-loop t w nonce src lo out₀ j₀ out j = (j ≤ length out₀) × (length out ≡ length out₀) × (out ≡ filled (drop lo (spec.crypt (cipher 14 w) nonce src)) j out₀)
+
+abbrev μ-loop : tie.MeasureT-loop
+μ-loop t w nonce src lo out₀ j₀ out j = length out₀ - j
+
+loop-holds : tie.Need-loop-holds Inv-loop μ-loop
+loop-holds c = (search needs, refl, refl)
+
+add-p : tie.Need-add-p Inv-loop μ-loop
+add-p c = search needs
+
+sub-in-block : tie.Need-sub-in-block Inv-loop μ-loop
+sub-in-block c = search needs
+
+in-block-requires : tie.Need-in-block-requires Inv-loop μ-loop
+in-block-requires c κs = search needs
+
+add-e : tie.Need-add-e Inv-loop μ-loop
+add-e c = search needs
+
+add-q : tie.Need-add-q Inv-loop μ-loop
+add-q c = search needs
+
+keystream-requires : tie.Need-keystream-requires Inv-loop μ-loop
+keystream-requires c κs = search needs
+
+sub-apply : tie.Need-sub-apply Inv-loop μ-loop
+sub-apply c = search needs
+
+part-apply-start : tie.Need-part-apply-start Inv-loop μ-loop
+part-apply-start c = search needs
+
+part-apply-end : tie.Need-part-apply-end Inv-loop μ-loop
+part-apply-end c = search needs
+
+sub-apply-2 : tie.Need-sub-apply-2 Inv-loop μ-loop
+sub-apply-2 c = search needs
+
+part-apply-start-2 : tie.Need-part-apply-start-2 Inv-loop μ-loop
+part-apply-start-2 c = search needs
+
+part-apply-end-2 : tie.Need-part-apply-end-2 Inv-loop μ-loop
+part-apply-end-2 c = search needs
+
+apply-requires : tie.Need-apply-requires Inv-loop μ-loop
+apply-requires c κs = search needs
+
+loop-less : tie.Need-loop-less Inv-loop μ-loop
+loop-less c = search needs
+
+loop-again : tie.Need-loop-again Inv-loop μ-loop
+loop-again c =
+    let l = c .before .before .before .before .before .before .before .before .loop in
+    let x = c .before .before .before .before .before .before .before .before .before .before .before .before .before .args in
+    let n = c .before .before .before .before .before .before .in-block .result in
+    let f = step (x .w .now) (x .nonce .now) (x .src .now) (x .out .now) (l .out) (x .lo) (l .j) n
+    (omega arith) (omega arith) (omega arith) (omega arith) (omega arith) (l .inv .2) (c .before .before .before .before .before .keystream .ensures) (c .before .before .apply .ensures) in
+    (omega arith, f .0, f .1)
+
+same-length : tie.Need-same-length Inv-loop μ-loop
+same-length c = search needs
+
+returns : tie.Need-returns Inv-loop μ-loop
+returns c =
+    let l = c .before .loop in
+    let x = c .before .before .before .before .before .before .args in
+    let t = drop (x .lo) (spec.crypt (cipher 14 (x .w .now)) (x .nonce .now) (x .src .now)) in
+    let e : l .j ≡ length (x .out .now) = omega arith in
+    l .inv .2 ∙ ap (λ (n : ℕ). filled t n (x .out .now)) e ∙ ap (λ (r : List ℕ). take (length (x .out .now)) t ++ r) (drop-length (x .out .now)) ∙ append-nil _
+
+pub crypt-spec : {M : Type 1} → statement M
+crypt-spec =
+    tie.close
+    (tie.spec
+    Inv-loop
+    μ-loop
+    loop-holds
+    add-p
+    sub-in-block
+    in-block-requires
+    add-e
+    add-q
+    keystream-requires
+    sub-apply
+    part-apply-start
+    part-apply-end
+    sub-apply-2
+    part-apply-start-2
+    part-apply-end-2
+    apply-requires
+    loop-less
+    loop-again
+    same-length
+    returns)

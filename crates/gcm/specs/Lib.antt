@@ -1,0 +1,4 @@
+pub mod Field
+pub mod Gcm
+pub mod Elements
+pub mod Statements

@@ -1,0 +1,90 @@
+// GCM: the tag, the test of a stored one, and sealing (SP 800-38D, section 7). A sealed text is a ciphertext and its tag.
+// Each function is lent the round table t and the key schedule w, and the hash subkey h of the same key.
+use crate::ctr::counter;
+use crate::ctr::crypt;
+use crate::field::Element;
+use crate::ghash::hashed;
+use crate::ghash::of_block;
+use crate::ghash::to_block;
+use aes::block::Block;
+use aes::block::add;
+use aes::block::block_at;
+use aes::block::encrypt;
+use aes::block::equal;
+use aes::block::to_bytes;
+use octets::slice::copy_at;
+ghost use mathlib.Core.Path.{_≡_};
+ghost use Prim.Native.Nat.{_<_, _≤_, _+_, _-_, _^_};
+ghost use lib.ListN.{length};
+ghost use Rattle.aes_spec.specs.RoundTable.{roundTable};
+ghost use Rattle.aes_spec.specs.Cipher.{cipher};
+ghost use Rattle.aes.specs.Blocks.{state};
+ghost use Rattle.gcm.specs.Elements.{value};
+ghost use Rattle.gcm.specs.Gcm as spec;
+
+pub fn subkey(t: &[u32; 256], w: &[u32]) -> Element
+    requires { ⌜ now t ≡ roundTable ⌝ }
+    requires { ⌜ 60 ≤ length (now w) ⌝ }
+    ensures { λ r. ⌜ value r ≡ spec.subkey (cipher 14 (now (w .entry))) ⌝ }
+{
+    let zeros = Block {
+        a: 0,
+        b: 0,
+        c: 0,
+        d: 0,
+    };
+    of_block(encrypt(t, w, zeros))
+}
+
+pub fn tag(
+    t: &[u32; 256],
+    w: &[u32],
+    h: Element,
+    nonce: &[u8],
+    aad: &[u8],
+    ciphertext: &[u8],
+) -> Block
+    requires { ⌜ now t ≡ roundTable ⌝ }
+    requires { ⌜ (60 ≤ length (now w)) × (length (now nonce) ≡ 12) ⌝ }
+    requires { ⌜ (value h ≡ spec.subkey (cipher 14 (now w))) × (length (now aad) < 2 ^ 61) × (length (now ciphertext) < 2 ^ 61) ⌝ }
+    ensures { λ r. ⌜ state r ≡ spec.tag (cipher 14 (now (w .entry))) (now (nonce .entry)) (now (aad .entry)) (now (ciphertext .entry)) ⌝ }
+{
+    add(
+        to_block(hashed(h, aad, ciphertext)),
+        encrypt(t, w, counter(nonce, 1)),
+    )
+}
+
+// Is the tag of a sealed text the right one?
+pub fn good(t: &[u32; 256], w: &[u32], h: Element, nonce: &[u8], aad: &[u8], sealed: &[u8]) -> bool
+    requires { ⌜ now t ≡ roundTable ⌝ }
+    requires { ⌜ (60 ≤ length (now w)) × (length (now nonce) ≡ 12) ⌝ }
+    requires { ⌜ (value h ≡ spec.subkey (cipher 14 (now w))) × (length (now aad) < 2 ^ 61) × (length (now sealed) < 2 ^ 61) × (16 ≤ length (now sealed)) ⌝ }
+    ensures { λ r. ⌜ r ≡ spec.good (cipher 14 (now (w .entry))) (now (nonce .entry)) (now (aad .entry)) (now (sealed .entry)) ⌝ }
+{
+    let n = sealed.len() - 16;
+    let x = tag(t, w, h, nonce, aad, &sealed[..n]);
+    equal(x, block_at(sealed, n))
+}
+
+// Writes the sealed cleartext to out, which has just its length.
+pub fn seal(
+    t: &[u32; 256],
+    w: &[u32],
+    h: Element,
+    nonce: &[u8],
+    aad: &[u8],
+    cleartext: &[u8],
+    out: &mut [u8],
+)
+    requires { ⌜ now t ≡ roundTable ⌝ }
+    requires { ⌜ (60 ≤ length (now w)) × (length (now nonce) ≡ 12) ⌝ }
+    requires { ⌜ (value h ≡ spec.subkey (cipher 14 (now w))) × (length (now aad) < 2 ^ 61) × (length (now cleartext) ≤ 2 ^ 36 - 32) ⌝ }
+    requires { ⌜ length (now out) ≡ length (now cleartext) + 16 ⌝ }
+    ensures { λ _. ⌜ now (out .exit) ≡ spec.seal (cipher 14 (now (w .entry))) (now (nonce .entry)) (now (aad .entry)) (now (cleartext .entry)) ⌝ }
+{
+    let n = cleartext.len();
+    crypt(t, w, nonce, cleartext, 0, &mut out[..n]);
+    let x = tag(t, w, h, nonce, aad, &out[..n]);
+    copy_at(&to_bytes(x), out, n);
+}

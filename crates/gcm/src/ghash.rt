@@ -1,0 +1,83 @@
+// GHASH (SP 800-38D, 6.4) of parts of slices.
+use crate::field::Element;
+use crate::field::add;
+use crate::field::mul;
+use aes::block::Block;
+use aes::block::block_at;
+use octets::slice::copy_at;
+ghost use mathlib.Core.Path.{_≡_};
+ghost use mathlib.Core.List.{_++_};
+ghost use Prim.Native.Nat.{_<_, _≤_, _-_, _^_};
+ghost use lib.ListN.{length, replicate};
+ghost use Rattle.octets.specs.BigEndian.{int, be};
+ghost use Rattle.aes.specs.Blocks.{state};
+ghost use Rattle.gcm.specs.Elements.{value};
+ghost use Rattle.gcm.specs.Gcm as spec;
+
+pub fn of_block(x: Block) -> Element
+    ensures { λ r. ⌜ value r ≡ int (state x) ⌝ }
+{
+    Element {
+        hi: (x.a as u64) * 4294967296 + (x.b as u64),
+        lo: (x.c as u64) * 4294967296 + (x.d as u64),
+    }
+}
+
+pub fn to_block(x: Element) -> Block
+    ensures { λ r. ⌜ state r ≡ be 16 (value x) ⌝ }
+{
+    Block {
+        a: (x.hi / 4294967296) as u32,
+        b: (x.hi % 4294967296) as u32,
+        c: (x.lo / 4294967296) as u32,
+        d: (x.lo % 4294967296) as u32,
+    }
+}
+
+// A last block, filled up with zeros.
+fn padded(s: &[u8]) -> Block
+    requires { ⌜ length (now s) ≤ 16 ⌝ }
+    ensures { λ r. ⌜ state r ≡ now (s .entry) ++ replicate (16 - length (now (s .entry))) 0 ⌝ }
+{
+    let mut buffer = [0u8; 16];
+    copy_at(s, &mut buffer, 0);
+    block_at(&buffer, 0)
+}
+
+fn step(h: Element, y: Element, x: Block) -> Element
+    ensures { λ r. ⌜ value r ≡ spec.ghashStep (value h) (value y) (state x) ⌝ }
+{
+    mul(add(y, of_block(x)), h)
+}
+
+// From y on, over the blocks of s, the last one filled up.
+fn absorb(h: Element, y: Element, s: &[u8]) -> Element
+    ensures { λ r. ⌜ value r ≡ spec.ghashFrom (value h) (value y) (spec.pad (now (s .entry))) (spec.blocks (length (now (s .entry)))) ⌝ }
+{
+    let n = s.len() / 16;
+    let mut z = y;
+    let mut i = 0;
+    while i < n {
+        z = step(h, z, block_at(s, 16 * i));
+        i += 1;
+    }
+    if 16 * n < s.len() {
+        let last = 16 * n;
+        return step(h, z, padded(&s[last..]));
+    }
+    z
+}
+
+// The hash that the tag is made of: of associated data, ciphertext and both lengths in bits.
+pub fn hashed(h: Element, aad: &[u8], ciphertext: &[u8]) -> Element
+    requires { ⌜ (length (now aad) < 2 ^ 61) × (length (now ciphertext) < 2 ^ 61) ⌝ }
+    ensures { λ r. ⌜ value r ≡ spec.hashed (value h) (now (aad .entry)) (now (ciphertext .entry)) ⌝ }
+{
+    let y = absorb(h, Element { hi: 0, lo: 0 }, aad);
+    let z = absorb(h, y, ciphertext);
+    let lengths = Element {
+        hi: 8 * (aad.len() as u64),
+        lo: 8 * (ciphertext.len() as u64),
+    };
+    mul(add(z, lengths), h)
+}
