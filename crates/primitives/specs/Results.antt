@@ -1,0 +1,41 @@
+-- What each exported function ends in: its status, 1 for done and 0 for refused, and what its buffer holds then.
+-- Assumes nothing.
+use Prim.Native.Nat.{ℕ, _+_, _-_, _^_}
+use mathlib.Core.Bool.{Bool, _&&_, cond}
+use mathlib.Core.List.{List}
+use lib.Dec.{eqb, ltb, leb}
+use lib.ListN.{length}
+use Rattle.octets.specs.Bytes.{placed}
+use Rattle.aes_spec.specs.Cipher.{aes}
+use Rattle.gcm.specs.Gcm.{seal, good, plain}
+
+pub record End : Type 0 where
+  pub status : ℕ
+  pub buffer : List ℕ
+
+abbrev pub end : ℕ → List ℕ → End
+end status buffer = record { status = status; buffer = buffer }
+
+-- The answer s at the front of the buffer d, if the test holds; else d as it was.
+unfoldable pub doneIf : Bool → List ℕ → List ℕ → End
+doneIf test s d = cond test (end 1 (placed s 0 d)) (end 0 d)
+
+unfoldable pub aes256 : List ℕ → List ℕ → List ℕ → End
+aes256 key block d = doneIf (eqb (length key) 32 && eqb (length block) 16 && leb 16 (length d)) (aes 8 key block) d
+
+-- The sizes that GCM takes here, of a text of n bytes. SP 800-38D, 5.2.1.1: fewer than 2^61 bytes of associated data, and at
+-- most 2^36 - 32 of text.
+unfoldable pub gcmFits : List ℕ → List ℕ → List ℕ → ℕ → Bool
+gcmFits key nonce aad n = eqb (length key) 32 && eqb (length nonce) 12 && ltb (length aad) (2 ^ 61) && leb n (2 ^ 36 - 32)
+
+unfoldable pub gcmSeal : List ℕ → List ℕ → List ℕ → List ℕ → List ℕ → End
+gcmSeal key nonce aad cleartext d =
+    doneIf (gcmFits key nonce aad (length cleartext) && leb (length cleartext + 16) (length d))
+    (seal (aes 8 key) nonce aad cleartext) d
+
+unfoldable pub gcmOpen : List ℕ → List ℕ → List ℕ → List ℕ → List ℕ → End
+gcmOpen key nonce aad sealed d =
+    doneIf
+    (leb 16 (length sealed) && gcmFits key nonce aad (length sealed - 16) && leb (length sealed - 16) (length d)
+    && good (aes 8 key) nonce aad sealed)
+    (plain (aes 8 key) nonce sealed) d
