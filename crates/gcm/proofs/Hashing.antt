@@ -9,8 +9,9 @@ use lib.ListN.{length, take, drop, replicate, length-append, length-drop, length
 use lib.Seq.{drop-append-le, take-append-le, drop-drop, take-all, drop-at, take-at}
 use lib.Bits.{bitXor}
 use Rattle.octets.specs.BigEndian.{intFrom, int, be}
+use Rattle.ctr.specs.Ctr.{blocks}
 use Rattle.gcm.specs.Field.{mul}
-use Rattle.gcm.specs.Gcm.{blocks, ghashStep, ghashFrom, ghash, pad, hashed}
+use Rattle.gcm.specs.Gcm.{ghashStep, ghashFrom, ghash, pad, hashed}
 use Rattle.octets.proofs.BigEndian.{int-append, int-be, length-be}
 
 pub length-pad : (s : List ℕ) → length (pad s) ≡ 16 * blocks (length s)

@@ -8,47 +8,41 @@ use native.Mathlib.Omega.{arith}
 use lib.ListN.{length, take, drop, length-append, take-append-drop}
 use lib.Seq.{take-at, drop-at, length-take-le}
 use Rattle.octets.specs.Bytes.{same}
-use Rattle.octets.specs.Xors.{xors}
 use Rattle.octets.specs.BigEndian.{be}
 use Rattle.octets.proofs.BigEndian.{length-be}
 use Rattle.octets.proofs.Equality.{same-self, same-eq}
-use Rattle.octets.proofs.Xors.{xors-twice}
-use Rattle.gcm.specs.Gcm.{blocks, keystream, gctr, crypt, subkey, hashed, inc32, j0, tag, seal, ciphertextOf, tagOf, good, plain}
+use Rattle.ctr.specs.Ctr.{inc32}
+use Rattle.ctr.proofs.Texts.{length-ctr, ctr-twice}
+use Rattle.gcm.specs.Gcm.{crypt, subkey, hashed, j0, tag, seal, good, plain}
 use Rattle.gcm.specs.Statements.{SealedOpens, OpenedWasSealed, Lengths}
-use Rattle.gcm.proofs.Keystream.{length-keystream, length-gctr, length-crypt}
 
 module _ (e : List ℕ → List ℕ) (le : (s : List ℕ) → length (e s) ≡ 16) where
-  again : (c s t : List ℕ) → length t ≡ length s → t ≡ gctr e c s → gctr e c t ≡ s
-  unfolding gctr
-  again c s t l p =
-      ap₂ (λ (x : List ℕ) (n : ℕ). xors x (keystream e c (blocks n))) p l
-      ∙ xors-twice s (keystream e c (blocks (length s))) (omega (arith, length-keystream e le c (blocks (length s))))
-
-  pub gctr-twice : (c s : List ℕ) → gctr e c (gctr e c s) ≡ s
-  gctr-twice c s = again c s (gctr e c s) (length-gctr e le c s) refl
+  pub length-crypt : (iv s : List ℕ) → length (crypt e iv s) ≡ length s
+  unfolding crypt
+  length-crypt iv s = length-ctr inc32 e le (inc32 (j0 iv)) s
 
   pub crypt-twice : (iv s : List ℕ) → crypt e iv (crypt e iv s) ≡ s
   unfolding crypt
-  crypt-twice iv s = gctr-twice (inc32 (j0 iv)) s
+  crypt-twice iv s = ctr-twice inc32 e le (inc32 (j0 iv)) s
 
   pub length-tag : (iv a c : List ℕ) → length (tag e iv a c) ≡ 16
   unfolding tag
-  length-tag iv a c = length-gctr e le (j0 iv) (be 16 (hashed (subkey e) a c)) ∙ length-be 16 (hashed (subkey e) a c)
+  length-tag iv a c = length-ctr inc32 e le (j0 iv) (be 16 (hashed (subkey e) a c)) ∙ length-be 16 (hashed (subkey e) a c)
 
   -- ---- what is sealed
 
   module _ (iv a p : List ℕ) where
     pub length-seal : length (seal e iv a p) ≡ length p + 16
     unfolding seal
-    length-seal = length-append (crypt e iv p) (tag e iv a (crypt e iv p)) ∙ ap₂ (λ (x y : ℕ). x + y) (length-crypt e le iv p) (length-tag iv a (crypt e iv p))
+    length-seal = length-append (crypt e iv p) (tag e iv a (crypt e iv p)) ∙ ap₂ (λ (x y : ℕ). x + y) (length-crypt iv p) (length-tag iv a (crypt e iv p))
 
     text : take (length (seal e iv a p) - 16) (seal e iv a p) ≡ crypt e iv p
     unfolding seal
-    text = take-at (crypt e iv p) (tag e iv a (crypt e iv p)) (length (seal e iv a p) - 16) (omega (arith, length-crypt e le iv p, length-seal))
+    text = take-at (crypt e iv p) (tag e iv a (crypt e iv p)) (length (seal e iv a p) - 16) (omega (arith, length-crypt iv p, length-seal))
 
     end : drop (length (seal e iv a p) - 16) (seal e iv a p) ≡ tag e iv a (crypt e iv p)
     unfolding seal
-    end = drop-at (crypt e iv p) (tag e iv a (crypt e iv p)) (length (seal e iv a p) - 16) (omega (arith, length-crypt e le iv p, length-seal))
+    end = drop-at (crypt e iv p) (tag e iv a (crypt e iv p)) (length (seal e iv a p) - 16) (omega (arith, length-crypt iv p, length-seal))
 
     pub good-seal : good e iv a (seal e iv a p) ≡ true
     unfolding good
@@ -62,7 +56,7 @@ module _ (e : List ℕ → List ℕ) (le : (s : List ℕ) → length (e s) ≡ 1
 
   pub length-plain : (iv s : List ℕ) → length (plain e iv s) ≡ length s - 16
   unfolding plain
-  length-plain iv s = length-crypt e le iv (take (length s - 16) s) ∙ length-take-le (length s - 16) s (omega arith)
+  length-plain iv s = length-crypt iv (take (length s - 16) s) ∙ length-take-le (length s - 16) s (omega arith)
 
   pub seal-plain : (iv a s : List ℕ) → good e iv a s ≡ true → s ≡ seal e iv a (plain e iv s)
   unfolding good plain seal

@@ -1,6 +1,5 @@
 pub mod Halves
 pub mod Counters
 pub mod Hashing
-pub mod Keystream
 pub mod Laws
 pub mod Vectors

@@ -14,16 +14,17 @@ use Rattle.aes_spec.specs.Field as f
 use Rattle.aes_spec.specs.SBox.{sbox}
 use Rattle.aes_spec.specs.KeyExpansion.{subWord, rotWord, powerOfX, rcon, temp, expansion, keyExpansion}
 use Rattle.aes_spec.specs.Cipher.{subBytes, shiftRows, mixColumns, addRoundKey, afterRounds, cipher, aes}
+use Rattle.ctr.specs.Ctr.{inc32, keystream, ctr}
 use Rattle.gcm.specs.Field.{next, mulFrom, mul}
-use Rattle.gcm.specs.Gcm.{inc32, ghashFrom, ghash, pad, keystream, gctr, subkey, j0, crypt, hashed, tag, seal, good, plain}
+use Rattle.gcm.specs.Gcm.{ghashFrom, ghash, pad, subkey, j0, crypt, hashed, tag, seal, good, plain}
 
 case-13 : seal (aes 8 (replicate 32 0)) (replicate 12 0) [] [] ≡ be 16 0x530f8afbc74536b9a963b4f1c4cb738b
-unfolding f.xtimes f.mulBits f.mul sbox words wordBytes subWord rotWord powerOfX rcon temp expansion keyExpansion xors subBytes shiftRows mixColumns addRoundKey afterRounds cipher aes intFrom int be next mulFrom mul inc32 ghashFrom ghash pad keystream gctr subkey j0 crypt hashed tag seal
+unfolding f.xtimes f.mulBits f.mul sbox words wordBytes subWord rotWord powerOfX rcon temp expansion keyExpansion xors subBytes shiftRows mixColumns addRoundKey afterRounds cipher aes intFrom int be next mulFrom mul inc32 ghashFrom ghash pad keystream ctr subkey j0 crypt hashed tag seal
 case-13 = refl
 
 case-14 : seal (aes 8 (replicate 32 0)) (replicate 12 0) [] (replicate 16 0)
     ≡ be 16 0xcea7403d4d606b6e074ec5d3baf39d18 ++ be 16 0xd0d1c8a799996bf0265b98b5d48ab919
-unfolding f.xtimes f.mulBits f.mul sbox words wordBytes subWord rotWord powerOfX rcon temp expansion keyExpansion xors subBytes shiftRows mixColumns addRoundKey afterRounds cipher aes intFrom int be next mulFrom mul inc32 ghashFrom ghash pad keystream gctr subkey j0 crypt hashed tag seal
+unfolding f.xtimes f.mulBits f.mul sbox words wordBytes subWord rotWord powerOfX rcon temp expansion keyExpansion xors subBytes shiftRows mixColumns addRoundKey afterRounds cipher aes intFrom int be next mulFrom mul inc32 ghashFrom ghash pad keystream ctr subkey j0 crypt hashed tag seal
 case-14 = refl
 
 abbrev key16 : List ℕ
@@ -42,5 +43,5 @@ abbrev sealed16 : List ℕ
 sealed16 = be 60 0x522dc1f099567d07f47f37a32a84427d643a8cdcbfe5c0c97598a2bd2555d1aa8cb08e48590dbb3da7b08b1056828838c5f61e6393ba7a0abcc9f662 ++ be 16 0x76fc6ece0f4e1768cddf8853bb2d551b
 
 case-16 : seal (aes 8 key16) iv16 aad16 clear16 ≡ sealed16
-unfolding f.xtimes f.mulBits f.mul sbox words wordBytes subWord rotWord powerOfX rcon temp expansion keyExpansion xors subBytes shiftRows mixColumns addRoundKey afterRounds cipher aes intFrom int be next mulFrom mul inc32 ghashFrom ghash pad keystream gctr subkey j0 crypt hashed tag seal
+unfolding f.xtimes f.mulBits f.mul sbox words wordBytes subWord rotWord powerOfX rcon temp expansion keyExpansion xors subBytes shiftRows mixColumns addRoundKey afterRounds cipher aes intFrom int be next mulFrom mul inc32 ghashFrom ghash pad keystream ctr subkey j0 crypt hashed tag seal
 case-16 = refl

@@ -10,15 +10,8 @@ use lib.Bits.{bitXor}
 use Rattle.octets.specs.Bytes.{same}
 use Rattle.octets.specs.Xors.{xors}
 use Rattle.octets.specs.BigEndian.{int, be}
+use Rattle.ctr.specs.Ctr.{blocks, inc32, ctr}
 use Rattle.gcm.specs.Field.{mul}
-
--- How many blocks n bytes need, the last one perhaps not full.
-abbrev pub blocks : ℕ → ℕ
-blocks n = (n + 15) / 16
-
--- 6.2: the last 32 bits, as a number, plus 1 modulo 2^32.
-unfoldable pub inc32 : List ℕ → List ℕ
-inc32 x = take 12 x ++ be 4 ((int (drop 12 x) + 1) % 2 ^ 32)
 
 -- 6.4, algorithm 2, step 3: Y(i) of Y(i-1) and the block X(i).
 abbrev pub ghashStep : ℕ → ℕ → List ℕ → ℕ
@@ -53,14 +46,9 @@ abbrev pub tagOf : List ℕ → List ℕ
 tagOf s = drop (length s - 16) s
 
 module _ (e : List ℕ → List ℕ) where
-  -- 6.5, algorithm 3, steps 4 to 7: the ciphered counter blocks, n of them from cb on.
-  unfoldable pub keystream : List ℕ → ℕ → List ℕ
-  keystream cb zero = []
-  keystream cb (suc n) = e cb ++ keystream (inc32 cb) n
-
-  -- 6.5, algorithm 3: GCTR. The bytes of the key stream that the last block does not need are left out.
-  unfoldable pub gctr : List ℕ → List ℕ → List ℕ
-  gctr icb x = xors x (keystream icb (blocks (length x)))
+  -- 6.5, algorithm 3: GCTR, counter mode with inc32 (6.2).
+  abbrev pub gctr : List ℕ → List ℕ → List ℕ
+  gctr icb x = ctr inc32 e icb x
 
   -- 7.1, step 1: the hash subkey H, as a number.
   unfoldable pub subkey : ℕ

@@ -1,7 +1,5 @@
 // GCM: the tag, the test of a stored one, and sealing (SP 800-38D, section 7). A sealed text is a ciphertext and its tag.
 // Each function is lent the round table t and the key schedule w, and the hash subkey h of the same key.
-use crate::ctr::counter;
-use crate::ctr::crypt;
 use crate::field::Element;
 use crate::ghash::hashed;
 use crate::ghash::of_block;
@@ -13,14 +11,46 @@ use aes::block::encrypt;
 use aes::block::equal;
 use aes::block::to_bytes;
 use octets::slice::copy_at;
+use octets::word::word_at;
 ghost use mathlib.Core.Path.{_≡_};
 ghost use Prim.Native.Nat.{_<_, _≤_, _+_, _-_, _^_};
-ghost use lib.ListN.{length};
+ghost use mathlib.Core.List.{_++_};
+ghost use lib.ListN.{length, take, drop};
+ghost use Rattle.octets.specs.BigEndian.{be};
 ghost use Rattle.aes_spec.specs.RoundTable.{roundTable};
 ghost use Rattle.aes_spec.specs.Cipher.{cipher};
 ghost use Rattle.aes.specs.Blocks.{state};
 ghost use Rattle.gcm.specs.Elements.{value};
 ghost use Rattle.gcm.specs.Gcm as spec;
+
+// The counter block of a nonce and a number.
+fn counter(nonce: &[u8], n: u32) -> Block
+    requires { ⌜ length (now nonce) ≡ 12 ⌝ }
+    ensures { λ r. ⌜ state r ≡ now (nonce .entry) ++ be 4 n ⌝ }
+{
+    Block {
+        a: word_at(nonce, 0),
+        b: word_at(nonce, 4),
+        c: word_at(nonce, 8),
+        d: n,
+    }
+}
+
+// Writes to out the bytes from lo on of the text that src is enciphered or deciphered to, as many as out holds.
+pub fn crypt(
+    t: &[u32; 256],
+    w: &[u32],
+    nonce: &[u8],
+    src: &[u8],
+    lo: usize,
+    out: &mut [u8],
+)
+    requires { ⌜ now t ≡ roundTable ⌝ }
+    requires { ⌜ (60 ≤ length (now w)) × (length (now nonce) ≡ 12) × (lo + length (now out) ≤ length (now src)) ⌝ }
+    ensures { λ _. ⌜ now (out .exit) ≡ take (length (now (out .entry))) (drop lo (spec.crypt (cipher 14 (now (w .entry))) (now (nonce .entry)) (now (src .entry)))) ⌝ }
+{
+    ctr::crypt(t, w, counter(nonce, 2), src, lo, out);
+}
 
 pub fn subkey(t: &[u32; 256], w: &[u32]) -> Element
     requires { ⌜ now t ≡ roundTable ⌝ }
@@ -79,7 +109,7 @@ pub fn seal(
 )
     requires { ⌜ now t ≡ roundTable ⌝ }
     requires { ⌜ (60 ≤ length (now w)) × (length (now nonce) ≡ 12) ⌝ }
-    requires { ⌜ (value h ≡ spec.subkey (cipher 14 (now w))) × (length (now aad) < 2 ^ 61) × (length (now cleartext) ≤ 2 ^ 36 - 32) ⌝ }
+    requires { ⌜ (value h ≡ spec.subkey (cipher 14 (now w))) × (length (now aad) < 2 ^ 61) × (length (now cleartext) < 2 ^ 61) ⌝ }
     requires { ⌜ length (now out) ≡ length (now cleartext) + 16 ⌝ }
     ensures { λ _. ⌜ now (out .exit) ≡ spec.seal (cipher 14 (now (w .entry))) (now (nonce .entry)) (now (aad .entry)) (now (cleartext .entry)) ⌝ }
 {

@@ -11,6 +11,7 @@ ghost use Prim.Native.Nat.{_<_, _≤_, _-_, _^_};
 ghost use lib.ListN.{length, replicate};
 ghost use Rattle.octets.specs.BigEndian.{int, be};
 ghost use Rattle.aes.specs.Blocks.{state};
+ghost use Rattle.ctr.specs.Ctr.{blocks};
 ghost use Rattle.gcm.specs.Elements.{value};
 ghost use Rattle.gcm.specs.Gcm as spec;
 
@@ -52,7 +53,7 @@ fn step(h: Element, y: Element, x: Block) -> Element
 
 // From y on, over the blocks of s, the last one filled up.
 fn absorb(h: Element, y: Element, s: &[u8]) -> Element
-    ensures { λ r. ⌜ value r ≡ spec.ghashFrom (value h) (value y) (spec.pad (now (s .entry))) (spec.blocks (length (now (s .entry)))) ⌝ }
+    ensures { λ r. ⌜ value r ≡ spec.ghashFrom (value h) (value y) (spec.pad (now (s .entry))) (blocks (length (now (s .entry)))) ⌝ }
 {
     let n = s.len() / 16;
     let mut z = y;

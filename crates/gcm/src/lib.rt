@@ -1,5 +1,4 @@
 // AES-256-GCM (SP 800-38D) with a nonce of 12 bytes and a tag of 16.
 pub mod aead;
-pub mod ctr;
 pub mod field;
 pub mod ghash;

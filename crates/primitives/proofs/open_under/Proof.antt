@@ -12,7 +12,7 @@ use lib.Seq.{length-take-le, take-all}
 use Rattle.aes_spec.specs.Cipher.{cipher, aes}
 use Rattle.aes.proofs.Ciphers.{under-key, length-cipher}
 use Rattle.gcm.specs.Gcm as spec
-use Rattle.gcm.proofs.Keystream.{length-crypt}
+use Rattle.gcm.proofs.Laws.{length-crypt}
 use Rattle.primitives.proofs.open_under.Statement.{statement}
 use Rattle.primitives.proofs.open_under.Tie as tie
 
@@ -69,7 +69,7 @@ crypt-requires c κs =
     let i = c .before .before .before .before .before .before .before .before .before .before .before .before .before .before .before .before .before .before .before .before in
     let s = i .args .sealed .now in
     let n : length (take (length s - 16) s) ≡ length s - 16 = length-take-le (length s - 16) s (omega arith) in
-    (c .before .before .before .before .before .before .before .before .before .before .before .before .before .before .table .ensures, ((search needs, i .pre .0 .1), (omega (arith, n, i .pre .1), omega (arith, n, i .pre .0 .3))))
+    (c .before .before .before .before .before .before .before .before .before .before .before .before .before .before .table .ensures, (search needs, i .pre .0 .1, omega (arith, n, i .pre .1)))
 
 same-length : tie.Need-same-length
 same-length c = search needs

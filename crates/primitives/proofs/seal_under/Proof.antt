@@ -4,6 +4,7 @@ use Prim.Native.Nat.{ℕ}
 use mathlib.Core.Path.{_≡_, _∙_, ap}
 use mathlib.Core.List.{List}
 use borrow.Author.Needs.{needs}
+use native.Mathlib.Omega.{arith}
 use Rattle.aes_spec.specs.Cipher.{cipher, aes}
 use Rattle.aes.proofs.Ciphers.{under-key}
 use Rattle.gcm.specs.Gcm as spec
@@ -36,7 +37,7 @@ seal-requires c κs =
     let k = c .before .before .before in
     let b = k .before .before .before .before .before .before in
     let p = b .before .before .before .before .before .before .pre in
-    (b .table .ensures, ((search needs, p .0 .1), ((k .subkey .ensures, p .0 .2, p .0 .3), p .1)))
+    (b .table .ensures, ((search needs, p .0 .1), ((k .subkey .ensures, p .0 .2, omega (arith, p .0 .3)), p .1)))
 
 same-length : tie.Need-same-length
 same-length c = search needs

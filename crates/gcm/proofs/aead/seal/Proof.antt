@@ -13,7 +13,7 @@ use Rattle.octets.proofs.Lists.{drop-all}
 use Rattle.aes_spec.specs.Cipher.{cipher}
 use Rattle.aes.proofs.Ciphers.{length-cipher}
 use Rattle.gcm.specs.Gcm as spec
-use Rattle.gcm.proofs.Keystream.{length-crypt}
+use Rattle.gcm.proofs.Laws.{length-crypt}
 use Rattle.gcm.proofs.aead.seal.Statement.{statement}
 use Rattle.gcm.proofs.aead.seal.Tie as tie
 
@@ -62,7 +62,7 @@ crypt-requires c κs =
     let s = c .before .before .before .before .before .before in
     let p = s .pre in
     let n : length (take (length (s .args .cleartext .now)) (s .args .out .now)) ≡ length (s .args .cleartext .now) = length-take-le (length (s .args .cleartext .now)) (s .args .out .now) (omega arith) in
-    (p .0, (p .1 .0, (omega (arith, n), omega arith)))
+    (p .0, (p .1 .0 .0, p .1 .0 .1, omega (arith, n)))
 
 slice-reshare-prefix-tag : tie.Need-slice-reshare-prefix-tag
 slice-reshare-prefix-tag c = search needs

@@ -6,9 +6,8 @@ use borrow.Author.Needs.{needs}
 use Rattle.octets.specs.BigEndian.{be}
 use Rattle.octets.specs.Xors.{xors}
 use Rattle.aes_spec.specs.Cipher.{cipher}
-use Rattle.aes.proofs.Ciphers.{length-cipher}
 use Rattle.gcm.specs.Gcm as spec
-use Rattle.gcm.proofs.Keystream.{tag-is}
+use Rattle.gcm.proofs.Counters.{tag-is}
 use Rattle.gcm.proofs.aead.tag.Statement.{statement}
 use Rattle.gcm.proofs.aead.tag.Tie as tie
 
@@ -37,7 +36,7 @@ returns c =
     ∙ ap₂ xors
     (b .to-block .ensures ∙ ap (be 16) (b .before .hashed .ensures ∙ ap (λ (h : ℕ). spec.hashed h (x .aad .now) (x .ciphertext .now)) (s .pre .1 .1 .0)))
     (c .before .encrypt .ensures ∙ ap e (c .before .before .counter .ensures))
-    ∙ tag-is e (length-cipher 14 (x .w .now)) (x .nonce .now) (s .pre .1 .0 .1) (x .aad .now) (x .ciphertext .now)
+    ∙ tag-is (x .nonce .now) (s .pre .1 .0 .1) e (x .aad .now) (x .ciphertext .now)
 
 pub tag-spec : {M : Type 1} → statement M
 tag-spec =

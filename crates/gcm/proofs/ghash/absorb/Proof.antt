@@ -6,6 +6,7 @@ use borrow.Author.Needs.{needs}
 use native.Mathlib.Omega.{arith}
 use lib.ListN.{length, drop, length-drop}
 use Rattle.octets.proofs.Lists.{part-rest}
+use Rattle.ctr.specs.Ctr.{blocks}
 use Rattle.gcm.specs.Elements.{value}
 use Rattle.gcm.specs.Gcm as spec
 use Rattle.gcm.proofs.Hashing.{rest, hash-more, hash-last, hash-none}
@@ -13,7 +14,7 @@ use Rattle.gcm.proofs.ghash.absorb.Statement.{statement}
 use Rattle.gcm.proofs.ghash.absorb.Tie as tie
 
 abbrev Inv-loop : tie.InvT-loop
-Inv-loop h s n z₀ i₀ z i = (i ≤ n) × (spec.ghashFrom (value h) (value z₀) (spec.pad s) (spec.blocks (length s)) ≡ rest (value h) s (value z) i)
+Inv-loop h s n z₀ i₀ z i = (i ≤ n) × (spec.ghashFrom (value h) (value z₀) (spec.pad s) (blocks (length s)) ≡ rest (value h) s (value z) i)
 
 abbrev μ-loop : tie.MeasureT-loop
 μ-loop h s n z₀ i₀ z i = n - i
@@ -21,7 +22,7 @@ abbrev μ-loop : tie.MeasureT-loop
 loop-holds : tie.Need-loop-holds Inv-loop μ-loop
 loop-holds c =
     let x = c .before .args in
-    let e : spec.blocks (length (x .s .now)) ≡ spec.blocks (length (x .s .now)) - 0 = omega arith in
+    let e : blocks (length (x .s .now)) ≡ blocks (length (x .s .now)) - 0 = omega arith in
     (search needs, ap (spec.ghashFrom (value (x .h)) (value (x .y)) (spec.pad (x .s .now))) e)
 
 mul-block-at : tie.Need-mul-block-at Inv-loop μ-loop

@@ -6,6 +6,7 @@ use borrow.Author.Needs.{needs}
 use native.Mathlib.Omega.{arith}
 use lib.Bits.{bitXor}
 use lib.ListN.{length}
+use Rattle.ctr.specs.Ctr.{blocks}
 use Rattle.gcm.specs.Elements.{value}
 use Rattle.gcm.specs.Field as field
 use Rattle.gcm.specs.Gcm as spec
@@ -40,7 +41,7 @@ returns c =
     c .mul .ensures
     ∙ ap (λ (z : ℕ). field.mul z h) (c .before .add .ensures
     ∙ ap (λ (z : ℕ). bitXor z (8 * length a * 2 ^ 64 + 8 * length d))
-    (c .before .before .absorb2 .ensures ∙ ap (λ (z : ℕ). spec.ghashFrom h z (spec.pad d) (spec.blocks (length d))) (c .before .before .before .absorb .ensures)))
+    (c .before .before .absorb2 .ensures ∙ ap (λ (z : ℕ). spec.ghashFrom h z (spec.pad d) (blocks (length d))) (c .before .before .before .absorb .ensures)))
     ∙ hash-all h a d (omega arith) (omega arith)
 
 pub hashed-spec : {M : Type 1} → statement M

@@ -3,8 +3,8 @@
 use borrow.Author.Needs.{needs}
 use native.Mathlib.Omega.{arith}
 use Rattle.gcm.proofs.Counters.{counter-is}
-use Rattle.gcm.proofs.ctr.counter.Statement.{statement}
-use Rattle.gcm.proofs.ctr.counter.Tie as tie
+use Rattle.gcm.proofs.aead.counter.Statement.{statement}
+use Rattle.gcm.proofs.aead.counter.Tie as tie
 
 word-at-requires : tie.Need-word-at-requires
 word-at-requires c κs = search needs

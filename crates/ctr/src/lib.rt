@@ -1,4 +1,4 @@
-// The key stream of GCM (SP 800-38D, 6.5), applied from any byte of the text on.
+// Counter mode with AES-256 and a counter of 32 bits, applied from any byte of the text on.
 use aes::block::Block;
 use aes::block::add;
 use aes::block::block_at;
@@ -6,38 +6,29 @@ use aes::block::encrypt;
 use aes::block::to_bytes;
 use octets::slice::copy_at;
 use octets::slice::xor_into;
-use octets::word::word_at;
+use std::num::wrapping_add_u32;
 ghost use mathlib.Core.Path.{_≡_};
 ghost use mathlib.Core.List.{_++_};
-ghost use Prim.Native.Nat.{_<_, _≤_, _+_, _-_, _^_};
+ghost use Prim.Native.Nat.{_<_, _≤_, _+_};
 ghost use lib.ListN.{length, take, drop};
 ghost use Rattle.octets.specs.BigEndian.{be};
 ghost use Rattle.octets.specs.Xors.{xors};
 ghost use Rattle.aes_spec.specs.RoundTable.{roundTable};
 ghost use Rattle.aes_spec.specs.Cipher.{cipher};
 ghost use Rattle.aes.specs.Blocks.{state};
-ghost use Rattle.gcm.specs.Gcm as spec;
+ghost use Rattle.ctr.specs.Ctr as spec;
 
-// The counter block of a nonce and a number.
-pub fn counter(nonce: &[u8], n: u32) -> Block
-    requires { ⌜ length (now nonce) ≡ 12 ⌝ }
-    ensures { λ r. ⌜ state r ≡ now (nonce .entry) ++ be 4 n ⌝ }
+// The counter block that comes i after the first: the last word counts.
+fn counter_at(first: Block, i: usize) -> Block
+    ensures { λ _. ⌜ state first ≡ take 12 (state first) ++ be 4 (first .d) ⌝ }
+    ensures { λ r. ⌜ state r ≡ take 12 (state first) ++ be 4 (first .d + i) ⌝ }
 {
     Block {
-        a: word_at(nonce, 0),
-        b: word_at(nonce, 4),
-        c: word_at(nonce, 8),
-        d: n,
+        a: first.a,
+        b: first.b,
+        c: first.c,
+        d: wrapping_add_u32(first.d, (i % 4294967296) as u32),
     }
-}
-
-// The block i of the key stream of the text.
-fn keystream(t: &[u32; 256], w: &[u32], nonce: &[u8], i: usize) -> Block
-    requires { ⌜ now t ≡ roundTable ⌝ }
-    requires { ⌜ (60 ≤ length (now w)) × (length (now nonce) ≡ 12) × (i + 2 < 2 ^ 32) ⌝ }
-    ensures { λ r. ⌜ state r ≡ cipher 14 (now (w .entry)) (now (nonce .entry) ++ be 4 (i + 2)) ⌝ }
-{
-    encrypt(t, w, counter(nonce, (i + 2) as u32))
 }
 
 // How many of the bytes that are left lie in the same block as its byte r.
@@ -62,12 +53,19 @@ fn apply(k: Block, r: usize, src: &[u8], out: &mut [u8])
     }
 }
 
-// Writes to out the bytes from lo on of the text that src is enciphered or deciphered to, as many as out holds.
-pub fn crypt(t: &[u32; 256], w: &[u32], nonce: &[u8], src: &[u8], lo: usize, out: &mut [u8])
+// Writes to out the bytes from lo on of the text that src becomes, as many as out holds. The first counter block is that of
+// the first byte of src.
+pub fn crypt(
+    t: &[u32; 256],
+    w: &[u32],
+    first: Block,
+    src: &[u8],
+    lo: usize,
+    out: &mut [u8],
+)
     requires { ⌜ now t ≡ roundTable ⌝ }
-    requires { ⌜ (60 ≤ length (now w)) × (length (now nonce) ≡ 12) ⌝ }
-    requires { ⌜ (lo + length (now out) ≤ length (now src)) × (length (now src) ≤ 2 ^ 36 - 32) ⌝ }
-    ensures { λ _. ⌜ now (out .exit) ≡ take (length (now (out .entry))) (drop lo (spec.crypt (cipher 14 (now (w .entry))) (now (nonce .entry)) (now (src .entry)))) ⌝ }
+    requires { ⌜ (60 ≤ length (now w)) × (lo + length (now out) ≤ length (now src)) ⌝ }
+    ensures { λ _. ⌜ now (out .exit) ≡ take (length (now (out .entry))) (drop lo (spec.ctr spec.inc32 (cipher 14 (now (w .entry))) (state first) (now (src .entry)))) ⌝ }
 {
     let mut j = 0;
     while j < out.len() {
@@ -75,7 +73,7 @@ pub fn crypt(t: &[u32; 256], w: &[u32], nonce: &[u8], src: &[u8], lo: usize, out
         let n = in_block(p % 16, out.len() - j);
         let e = j + n;
         let q = p + n;
-        let k = keystream(t, w, nonce, p / 16);
+        let k = encrypt(t, w, counter_at(first, p / 16));
         apply(k, p % 16, &src[p..q], &mut out[j..e]);
         j = e;
     }

@@ -1,0 +1,25 @@
+-- Counter mode (SP 800-38A, 6.5), over a block cipher e under its key and a function inc that gives the next counter block.
+-- Assumes nothing.
+use Prim.Native.Nat.{ℕ, zero, suc, _+_, _/_, _%_, _^_}
+use mathlib.Core.List.{List, [], _++_}
+use lib.ListN.{take, drop, length}
+use Rattle.octets.specs.Xors.{xors}
+use Rattle.octets.specs.BigEndian.{int, be}
+
+-- How many blocks n bytes need, the last one perhaps not full.
+abbrev pub blocks : ℕ → ℕ
+blocks n = (n + 15) / 16
+
+-- SP 800-38D, 6.2: the last 32 bits, as a number, plus 1 modulo 2^32.
+unfoldable pub inc32 : List ℕ → List ℕ
+inc32 x = take 12 x ++ be 4 ((int (drop 12 x) + 1) % 2 ^ 32)
+
+module _ (inc e : List ℕ → List ℕ) where
+  -- The enciphered counter blocks, n of them from cb on.
+  unfoldable pub keystream : List ℕ → ℕ → List ℕ
+  keystream cb zero = []
+  keystream cb (suc n) = e cb ++ keystream (inc cb) n
+
+  -- The text x with the key stream from cb on added; the bytes of the key stream that the last block does not need are left out.
+  unfoldable pub ctr : List ℕ → List ℕ → List ℕ
+  ctr cb x = xors x (keystream cb (blocks (length x)))
