@@ -1,6 +1,8 @@
 -- Counter mode (SP 800-38A, 6.5), over a block cipher e under its key and a function inc that gives the next counter block.
+-- To add is exclusive or.
 -- Assumes nothing.
 use Prim.Native.Nat.{ℕ, zero, suc, _+_, _/_, _%_, _^_}
+use mathlib.Core.Path.{_≡_}
 use mathlib.Core.List.{List, [], _++_}
 use lib.ListN.{take, drop, length}
 use Rattle.octets.specs.Xors.{xors}
@@ -10,9 +12,13 @@ use Rattle.octets.specs.BigEndian.{int, be}
 abbrev pub blocks : ℕ → ℕ
 blocks n = (n + 15) / 16
 
--- SP 800-38D, 6.2: the last 32 bits, as a number, plus 1 modulo 2^32.
+-- SP 800-38D, 6.2: a block of 16 bytes with its last 32 bits, as a number, plus 1 modulo 2^32.
 unfoldable pub inc32 : List ℕ → List ℕ
 inc32 x = take 12 x ++ be 4 ((int (drop 12 x) + 1) % 2 ^ 32)
+
+-- All that the laws of the modes ask of a block cipher under its key: it gives 16 numbers, whatever it is given.
+abbrev pub BlockCipher : (List ℕ → List ℕ) → Type 0
+BlockCipher e = (s : List ℕ) → length (e s) ≡ 16
 
 module _ (inc e : List ℕ → List ℕ) where
   -- The enciphered counter blocks, n of them from cb on.

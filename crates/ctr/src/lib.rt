@@ -55,14 +55,7 @@ fn apply(k: Block, r: usize, src: &[u8], out: &mut [u8])
 
 // Writes to out the bytes from lo on of the text that src becomes, as many as out holds. The first counter block is that of
 // the first byte of src.
-pub fn crypt(
-    t: &[u32; 256],
-    w: &[u32],
-    first: Block,
-    src: &[u8],
-    lo: usize,
-    out: &mut [u8],
-)
+pub fn crypt(t: &[u32; 256], w: &[u32], first: Block, src: &[u8], lo: usize, out: &mut [u8])
     requires { ⌜ now t ≡ roundTable ⌝ }
     requires { ⌜ (60 ≤ length (now w)) × (lo + length (now out) ≤ length (now src)) ⌝ }
     ensures { λ _. ⌜ now (out .exit) ≡ take (length (now (out .entry))) (drop lo (spec.ctr spec.inc32 (cipher 14 (now (w .entry))) (state first) (now (src .entry)))) ⌝ }

@@ -74,4 +74,4 @@ pub opened-was-sealed : OpenedWasSealed
 opened-was-sealed e le iv a s h = seal-plain e le iv a s h
 
 pub lengths : Lengths
-lengths e le iv a p = (length-seal e le iv a p, length-plain e le iv p)
+lengths e le iv a p s = (length-seal e le iv a p, length-plain e le iv s)

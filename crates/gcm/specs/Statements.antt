@@ -5,19 +5,17 @@ use mathlib.Core.Path.{_≡_}
 use mathlib.Core.Bool.{true}
 use mathlib.Core.List.{List}
 use lib.ListN.{length}
+use Rattle.ctr.specs.Ctr.{BlockCipher}
 use Rattle.gcm.specs.Gcm.{seal, good, plain}
-
-abbrev pub BlockCipher : (List ℕ → List ℕ) → Type 0
-BlockCipher e = (s : List ℕ) → length (e s) ≡ 16
 
 -- What was sealed opens to what went in.
 abbrev pub SealedOpens : Type 0
 SealedOpens = (e : List ℕ → List ℕ) → BlockCipher e → (iv a p : List ℕ) → (good e iv a (seal e iv a p) ≡ true) × (plain e iv (seal e iv a p) ≡ p)
 
--- What opens is what sealing writes for what it opens to.
+-- A sealed text that opens is what sealing writes for its cleartext.
 abbrev pub OpenedWasSealed : Type 0
 OpenedWasSealed = (e : List ℕ → List ℕ) → BlockCipher e → (iv a s : List ℕ) → good e iv a s ≡ true → s ≡ seal e iv a (plain e iv s)
 
 -- Sealing adds the 16 bytes of the tag, and opening takes them away.
 abbrev pub Lengths : Type 0
-Lengths = (e : List ℕ → List ℕ) → BlockCipher e → (iv a p : List ℕ) → (length (seal e iv a p) ≡ length p + 16) × (length (plain e iv p) ≡ length p - 16)
+Lengths = (e : List ℕ → List ℕ) → BlockCipher e → (iv a p s : List ℕ) → (length (seal e iv a p) ≡ length p + 16) × (length (plain e iv s) ≡ length s - 16)

@@ -37,14 +37,7 @@ fn counter(nonce: &[u8], n: u32) -> Block
 }
 
 // Writes to out the bytes from lo on of the text that src is enciphered or deciphered to, as many as out holds.
-pub fn crypt(
-    t: &[u32; 256],
-    w: &[u32],
-    nonce: &[u8],
-    src: &[u8],
-    lo: usize,
-    out: &mut [u8],
-)
+pub fn crypt(t: &[u32; 256], w: &[u32], nonce: &[u8], src: &[u8], lo: usize, out: &mut [u8])
     requires { ⌜ now t ≡ roundTable ⌝ }
     requires { ⌜ (60 ≤ length (now w)) × (length (now nonce) ≡ 12) × (lo + length (now out) ≤ length (now src)) ⌝ }
     ensures { λ _. ⌜ now (out .exit) ≡ take (length (now (out .entry))) (drop lo (spec.crypt (cipher 14 (now (w .entry))) (now (nonce .entry)) (now (src .entry)))) ⌝ }

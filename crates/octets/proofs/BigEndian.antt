@@ -89,6 +89,15 @@ be-halves h l a b =
     sym (be-word 12 (h * 2 ^ 64 + l)
     ∙ rw (high h l, low h l, be-word 8 (h * 2 ^ 32 + l / 2 ^ 32), digits-div h k, digits-mod h k, be-word 4 h, be-word 0 (h / 2 ^ 32), mod-eq-of-lt m) (four _ _ _ _ _))
 
+pub be-state : (a b c d : ℕ) → a < 2 ^ 32 → b < 2 ^ 32 → c < 2 ^ 32 → d < 2 ^ 32
+    → wordBytes (a ∷ b ∷ c ∷ d ∷ []) ≡ be 16 ((a * 2 ^ 32 + b) * 2 ^ 64 + (c * 2 ^ 32 + d))
+be-state a b c d p q r s =
+    let h = a * 2 ^ 32 + b in
+    let l = c * 2 ^ 32 + d in
+    let x : h < 2 ^ 64 = omega arith in
+    let y : l < 2 ^ 64 = omega arith in
+    sym (sym (be-halves h l x y) ∙ rw (digits-div a q, digits-mod a q, digits-div c s, digits-mod c s))
+
 pub be-four : (n : ℕ) → n < 2 ^ 32 → be 4 n ≡ wordBytes (n ∷ [])
 unfolding be
 be-four n h = be-word 0 n ∙ ap (λ (x : ℕ). wordBytes (x ∷ [])) (mod-eq-of-lt h)

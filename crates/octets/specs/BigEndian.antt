@@ -3,7 +3,7 @@
 use Prim.Native.Nat.{ℕ, zero, suc, _+_, _*_, _/_, _%_}
 use mathlib.Core.List.{List, [], _∷_, _++_}
 
--- x times 256^(length s), and the number of s.
+-- x times 256^(length s), plus the number of s.
 unfoldable pub intFrom : ℕ → List ℕ → ℕ
 intFrom x [] = x
 intFrom x (a ∷ s) = intFrom (x * 256 + a) s

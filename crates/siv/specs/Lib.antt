@@ -1,0 +1,4 @@
+pub mod Cmac
+pub mod Siv
+pub mod Pieces
+pub mod Statements
