@@ -1,11 +1,11 @@
--- The exclusive or of numbers is associative and its own inverse: by binary digits, lowest first.
+-- The exclusive or of numbers is associative and its own inverse, and the and distributes over it: by binary digits, lowest first.
 -- Assumes nothing.
 use Prim.Native.Nat.{ℕ, zero, suc, _+_, _*_, _/_, _%_, _^_, _<_}
 use mathlib.Core.Path.{_≡_, refl, sym, ap, ap₂, _∙_}
 use mathlib.Core.Logic.{⊎-elim}
 use native.Mathlib.Nat.{div-add-mod', mod-lt, zero-lt-suc, le-of-suc-le-suc, not-suc-le-zero}
 use lib.Arith.{bin-ind}
-use lib.Bits.{bitXor, xor-shr, xor-mod, xor-zero-r, xor-self, xor-comm}
+use lib.Bits.{bitXor, bitAnd, xor-shr, xor-mod, xor-zero-r, xor-self, xor-comm, and-shr, and-mod}
 
 -- Two numbers are equal when their halves and their lowest digits are
 by-halves : {a b : ℕ} → a / 2 ≡ b / 2 → a % 2 ≡ b % 2 → a ≡ b
@@ -47,3 +47,24 @@ xor-twice a b = xor-assoc a b b ∙ ap (bitXor a) (xor-self b) ∙ xor-zero-r a
 -- Two numbers whose sum is 0 are equal.
 pub xor-zero : (a b : ℕ) → bitXor a b ≡ 0 → a ≡ b
 xor-zero a b h = sym (xor-twice a b) ∙ ap (λ (x : ℕ). bitXor x b) h
+
+-- ---- and
+
+and-of-bits : (x y z : ℕ) → x < 2 → y < 2 → z < 2 → bitAnd x (bitXor y z) ≡ bitXor (bitAnd x y) (bitAnd x z)
+and-of-bits zero y z p q r = refl
+and-of-bits (suc zero) zero z p q r = refl
+and-of-bits (suc zero) (suc zero) zero p q r = refl
+and-of-bits (suc zero) (suc zero) (suc zero) p q r = refl
+and-of-bits (suc zero) (suc zero) (suc (suc z)) p q r = absurd (not-suc-le-zero (le-of-suc-le-suc (le-of-suc-le-suc r)))
+and-of-bits (suc zero) (suc (suc y)) z p q r = absurd (not-suc-le-zero (le-of-suc-le-suc (le-of-suc-le-suc q)))
+and-of-bits (suc (suc x)) y z p q r = absurd (not-suc-le-zero (le-of-suc-le-suc (le-of-suc-le-suc p)))
+
+-- The and of a number and a sum.
+pub and-xor : (a b c : ℕ) → bitAnd a (bitXor b c) ≡ bitXor (bitAnd a b) (bitAnd a c)
+and-xor a =
+    bin-ind (λ (n : ℕ). (b c : ℕ) → bitAnd n (bitXor b c) ≡ bitXor (bitAnd n b) (bitAnd n c)) (λ b c. refl)
+    (λ n ih b c. by-halves
+    (and-shr n (bitXor b c) 1 ∙ ap (bitAnd (n / 2)) (half b c) ∙ ih (b / 2) (c / 2)
+    ∙ sym (half (bitAnd n b) (bitAnd n c) ∙ ap₂ bitXor (and-shr n b 1) (and-shr n c 1)))
+    (and-mod n (bitXor b c) 1 ∙ ap (bitAnd (n % 2)) (odd b c) ∙ and-of-bits (n % 2) (b % 2) (c % 2) (bit< n) (bit< b) (bit< c)
+    ∙ sym (odd (bitAnd n b) (bitAnd n c) ∙ ap₂ bitXor (and-mod n b 1) (and-mod n c 1)))) a

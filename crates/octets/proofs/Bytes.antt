@@ -1,6 +1,6 @@
 -- Parts and joins of byte strings are byte strings.
 -- Assumes nothing.
-use Prim.Native.Nat.{ℕ, zero, suc, _+_, _-_, _*_, _/_, _%_, _<_, _≤_}
+use Prim.Native.Nat.{ℕ, zero, suc, _+_, _-_, _*_, _/_, _%_, _^_, _<_, _≤_}
 use mathlib.Core.Path.{_≡_, refl, sym, _∙_, ap, subst}
 use mathlib.Core.List.{List, [], _∷_, _++_}
 use mathlib.Core.Logic.{⊎-elim}
@@ -12,6 +12,7 @@ use lib.Bits.{bitXor, xor-lt}
 use Rattle.octets.specs.Bytes.{Below, Bytes}
 use Rattle.octets.specs.Xors.{xors}
 use Rattle.octets.specs.BigEndian.{be}
+use Rattle.octets.specs.Words.{b0, b1, b2, b3, wordBytes}
 use Rattle.octets.proofs.Lists.{le-or-lt}
 
 module _ {m : ℕ} where
@@ -63,3 +64,14 @@ pub bytes-be : (n x : ℕ) → Bytes (be n x)
 unfolding be
 bytes-be zero x = below-nil (zero-lt-suc 255)
 bytes-be (suc n) x = below-append (bytes-be n (x / 256)) (below-cons (mod-lt x (zero-lt-suc 255)) (below-nil (zero-lt-suc 255)))
+
+pub bytes-wordBytes : {ws : List ℕ} → Below (2 ^ 32) ws → Bytes (wordBytes ws)
+unfolding wordBytes
+bytes-wordBytes {ws} h = go ws h
+  where
+    go : (ws : List ℕ) → Below (2 ^ 32) ws → Bytes (wordBytes ws)
+    go [] h = below-nil (zero-lt-suc 255)
+    go (w ∷ ws) h =
+        let k : w < 2 ^ 32 = h .at 0 in
+        let t : Below (2 ^ 32) ws = record { at = λ i. h .at (suc i) } in
+        below-cons (omega arith) (below-cons (omega arith) (below-cons (omega arith) (below-cons (omega arith) (go ws t))))

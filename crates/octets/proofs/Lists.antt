@@ -9,7 +9,7 @@ use native.Mathlib.Numerals.{add-one}
 use native.Mathlib.Decide.{decLe}
 use native.Mathlib.Omega.{arith}
 use lib.ListN.{length, take, drop, getD, set, replicate, length-append, length-take, length-drop}
-use lib.Seq.{take-all, take-at, drop-at, take-add, drop-append-add, drop-drop, length-take-le, getD-append-add, getD-drop}
+use lib.Seq.{take-all, take-at, drop-at, take-add, drop-append-add, drop-drop, length-take-le, getD-append-add, getD-drop, paste, take-paste, length-paste-head}
 use Rattle.octets.specs.Bytes.{filled, placed}
 
 pub drop-all : (n : ℕ) (l : List ℕ) → length l ≤ n → drop n l ≡ []
@@ -76,7 +76,27 @@ part-rest l n a h = take-all (n - a) (drop a l) (rw length-drop (omega arith))
 pub placed-all : (s d : List ℕ) → length d ≡ length s → placed s 0 d ≡ s
 placed-all s d h = ap (λ (l : List ℕ). s ++ l) (drop-all (0 + length s) d (omega arith)) ∙ append-nil s
 
+-- What is written, and what stands before it.
+pub take-placed : (s d : List ℕ) (at : ℕ) → at ≤ length d → take (at + length s) (placed s at d) ≡ take at d ++ s
+take-placed s d at h = take-at (take at d ++ s) (drop (at + length s) d) (at + length s) (simp (length-append, length-take-le at d h))
+
+-- The next part p of s is written after its first k elements.
+pub placed-next : (s d p : List ℕ) (at k : ℕ) → at ≤ length d → k ≤ length s → p ≡ take (length p) (drop k s)
+    → placed p (at + k) (paste d at s k) ≡ paste d at s (k + length p)
+placed-next s d p at k h j e =
+    let a : take (at + k) (paste d at s k) ≡ take at d ++ take k s = take-paste d at s k h j in
+    let b : drop (at + k + length p) (paste d at s k) ≡ drop (at + k + length p) d =
+    drop-front (take at d ++ take k s) d (at + k) (at + k + length p) (length-paste-head d at s k h j) (omega arith) in
+    let f : take k s ++ p ≡ take (k + length p) s = ap (λ (l : List ℕ). take k s ++ l) e ∙ sym (take-add k (length p) s) in
+    let g : at + k + length p ≡ at + (k + length p) = omega arith in
+    rw (a, b, append-assoc (take at d) (take k s) p, f, g)
+
 -- ---- zeros
+
+pub take-replicate : (n m x : ℕ) → n ≤ m → take n (replicate m x) ≡ replicate n x
+take-replicate zero m x h = refl
+take-replicate (suc n) zero x h = absurd (not-suc-le-zero h)
+take-replicate (suc n) (suc m) x h = ap (λ (l : List ℕ). x ∷ l) (take-replicate n m x (le-of-suc-le-suc h))
 
 pub drop-replicate : (n m x : ℕ) → n ≤ m → drop n (replicate m x) ≡ replicate (m - n) x
 drop-replicate zero m x h = let e : m ≡ m - 0 = omega arith in ap (λ (k : ℕ). replicate k x) e

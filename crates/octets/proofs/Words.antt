@@ -1,10 +1,11 @@
 -- The laws of a word and its bytes.
 -- Assumes nothing.
-use Prim.Native.Nat.{ℕ, _+_, _*_, _/_, _%_, _^_, _<_}
+use Prim.Native.Nat.{ℕ, zero, suc, _+_, _*_, _/_, _%_, _^_, _<_}
 use mathlib.Core.Path.{_≡_, refl, sym, _∙_, ap, ap₂, subst}
 use mathlib.Core.List.{List, [], _∷_}
-use native.Mathlib.Nat.{div-div-eq-div-mul}
+use native.Mathlib.Nat.{div-div-eq-div-mul, not-suc-le-zero, le-of-suc-le-suc}
 use native.Mathlib.Omega.{arith}
+use lib.ListN.{length, take, drop, getD}
 use lib.Bits.{bitXor, xor-shr, xor-mod}
 use Rattle.octets.specs.Words.{word, b0, b1, b2, b3, HasBytes, wordBytes}
 
@@ -44,3 +45,17 @@ pub bytes-are : {u v w x u0 u1 u2 u3 v0 v1 v2 v3 w0 w1 w2 w3 x0 x1 x2 x3 : ℕ} 
     → wordBytes (u ∷ v ∷ w ∷ x ∷ []) ≡ u0 ∷ u1 ∷ u2 ∷ u3 ∷ v0 ∷ v1 ∷ v2 ∷ v3 ∷ w0 ∷ w1 ∷ w2 ∷ w3 ∷ x0 ∷ x1 ∷ x2 ∷ x3 ∷ []
 unfolding wordBytes
 bytes-are p q r s = cc
+
+pub length-wordBytes : (ws : List ℕ) → length (wordBytes ws) ≡ 4 * length ws
+unfolding wordBytes
+length-wordBytes [] = refl
+length-wordBytes (w ∷ ws) = omega (arith, length-wordBytes ws)
+
+-- The bytes of the word i.
+pub wordBytes-at : (ws : List ℕ) (i : ℕ) → i < length ws → take 4 (drop (4 * i) (wordBytes ws)) ≡ wordBytes (getD ws i 0 ∷ [])
+unfolding wordBytes
+wordBytes-at [] i h = absurd (not-suc-le-zero h)
+wordBytes-at (w ∷ ws) zero h = refl
+wordBytes-at (w ∷ ws) (suc i) h =
+    let e : 4 * suc i ≡ suc (suc (suc (suc (4 * i)))) = omega arith in
+    rw e (wordBytes-at ws i (le-of-suc-le-suc h))

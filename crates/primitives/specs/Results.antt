@@ -1,13 +1,17 @@
 -- What each exported function ends in: its status, 1 for done and 0 for refused, and what its buffer holds then.
 -- Assumes nothing.
 use Prim.Native.Nat.{ℕ, _+_, _-_, _^_}
-use mathlib.Core.Bool.{Bool, _&&_, cond}
+use mathlib.Core.Bool.{Bool, _&&_, not, cond}
 use mathlib.Core.List.{List}
 use lib.Dec.{eqb, ltb, leb}
 use lib.ListN.{length}
 use Rattle.octets.specs.Bytes.{placed}
 use Rattle.aes_spec.specs.Cipher.{aes}
 use Rattle.gcm.specs.Gcm.{seal, good, plain}
+use Rattle.sha1.specs.Message.{sha1}
+use Rattle.siv.specs.Cmac.{cmac}
+use Rattle.siv.specs.Siv as siv
+use Rattle.siv.specs.Pieces.{pieces}
 
 pub record End : Type 0 where
   pub status : ℕ
@@ -39,3 +43,29 @@ gcmOpen key nonce aad sealed d =
     (leb 16 (length sealed) && gcmFits key nonce aad (length sealed - 16) && leb (length sealed - 16) (length d)
     && good (aes 8 key) nonce aad sealed)
     (plain (aes 8 key) nonce sealed) d
+
+unfoldable pub cmac256 : List ℕ → List ℕ → List ℕ → End
+cmac256 key message d = doneIf (eqb (length key) 32 && leb 16 (length d)) (cmac (aes 8 key) message) d
+
+-- The sizes that SIV takes here, of a text of n bytes.
+unfoldable pub sivFits : List ℕ → List ℕ → ℕ → Bool
+sivFits mac enc n = eqb (length mac) 32 && eqb (length enc) 32 && leb n 1024
+
+-- A number that is not 0 says yes.
+abbrev pub isSet : ℕ → Bool
+isSet n = not (eqb n 0)
+
+unfoldable pub sivSeal : List ℕ → List ℕ → ℕ → List ℕ → List ℕ → List ℕ → End
+sivSeal mac enc given ad cleartext d =
+    doneIf (sivFits mac enc (length cleartext) && leb (length cleartext + 16) (length d))
+    (siv.seal (aes 8 mac) (aes 8 enc) (pieces (isSet given) ad) cleartext) d
+
+unfoldable pub sivOpen : List ℕ → List ℕ → ℕ → List ℕ → List ℕ → List ℕ → End
+sivOpen mac enc given ad sealed d =
+    doneIf
+    (leb 16 (length sealed) && sivFits mac enc (length sealed - 16) && leb (length sealed - 16) (length d)
+    && siv.good (aes 8 mac) (aes 8 enc) (pieces (isSet given) ad) sealed)
+    (siv.plain (aes 8 enc) sealed) d
+
+unfoldable pub sha1Digest : List ℕ → List ℕ → End
+sha1Digest message d = doneIf (leb 20 (length d)) (sha1 message) d

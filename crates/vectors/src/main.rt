@@ -1,8 +1,12 @@
 // Published vectors of the building blocks, a line each: what it prints is compared with the published values.
 use libc::STDOUT_FILENO;
-use primitives::primitives_aes256;
-use primitives::primitives_gcm_open;
-use primitives::primitives_gcm_seal;
+use primitives::authenticated::primitives_gcm_open;
+use primitives::authenticated::primitives_gcm_seal;
+use primitives::cipher::primitives_aes256;
+use primitives::deterministic::primitives_cmac256;
+use primitives::deterministic::primitives_siv_open;
+use primitives::deterministic::primitives_siv_seal;
+use primitives::hash::primitives_sha1;
 
 // The bytes in hex, on a line.
 fn print(bytes: &[u8]) {
@@ -40,7 +44,45 @@ fn gcm() {
     print(&opened);
 }
 
+// SP 800-38B, the example of 40 bytes for a key of 256 bits.
+fn cmac() {
+    let key =
+        b"\x60\x3d\xeb\x10\x15\xca\x71\xbe\x2b\x73\xae\xf0\x85\x7d\x77\x81\x1f\x35\x2c\x07\x3b\x61\x08\xd7\x2d\x98\x10\xa3\x09\x14\xdf\xf4";
+    let message =
+        b"\x6b\xc1\xbe\xe2\x2e\x40\x9f\x96\xe9\x3d\x7e\x11\x73\x93\x17\x2a\xae\x2d\x8a\x57\x1e\x03\xac\x9c\x9e\xb7\x6f\xac\x45\xaf\x8e\x51\x30\xc8\x1c\x46\xa3\x5c\xe4\x11";
+    let mut out = [0u8; 16];
+    primitives_cmac256(key, message, &mut out);
+    print(&out);
+}
+
+// A vector of AES-256-SIV with one string of associated data: the sealed text, and what it opens to.
+fn siv() {
+    let mac_key =
+        b"\xff\xfe\xfd\xfc\xfb\xfa\xf9\xf8\xf7\xf6\xf5\xf4\xf3\xf2\xf1\xf0\xf0\xf1\xf2\xf3\xf4\xf5\xf6\xf7\xf8\xf9\xfa\xfb\xfc\xfd\xfe\xff";
+    let enc_key =
+        b"\xf0\xf1\xf2\xf3\xf4\xf5\xf6\xf7\xf8\xf9\xfa\xfb\xfc\xfd\xfe\xff\xff\xfe\xfd\xfc\xfb\xfa\xf9\xf8\xf7\xf6\xf5\xf4\xf3\xf2\xf1\xf0";
+    let ad =
+        b"\x10\x11\x12\x13\x14\x15\x16\x17\x18\x19\x1a\x1b\x1c\x1d\x1e\x1f\x20\x21\x22\x23\x24\x25\x26\x27";
+    let cleartext = b"\x11\x22\x33\x44\x55\x66\x77\x88\x99\xaa\xbb\xcc\xdd\xee";
+    let mut sealed = [0u8; 30];
+    primitives_siv_seal(mac_key, enc_key, 1, ad, cleartext, &mut sealed);
+    print(&sealed);
+    let mut opened = [0u8; 14];
+    primitives_siv_open(mac_key, enc_key, 1, ad, &sealed, &mut opened);
+    print(&opened);
+}
+
+// FIPS 180-4's example: the digest of "abc".
+fn sha1() {
+    let mut out = [0u8; 20];
+    primitives_sha1(b"abc", &mut out);
+    print(&out);
+}
+
 fn main() {
     aes256();
     gcm();
+    cmac();
+    siv();
+    sha1();
 }

@@ -1,0 +1,29 @@
+// AES-256 of one block.
+use aes::block::block_at;
+use aes::block::encrypt;
+use aes::block::to_bytes;
+use aes::key::expand;
+use octets::slice::copy_at;
+ghost use mathlib.Core.Path.{_≡_};
+ghost use Rattle.primitives.specs.Results.{end, aes256};
+
+// The block, enciphered.
+#[no_mangle]
+pub extern "C" fn primitives_aes256(key: &[u8], block: &[u8], out: &mut [u8]) -> u32
+    ensures { λ r. ⌜ end r (now (out .exit)) ≡ aes256 (now (key .entry)) (now (block .entry)) (now (out .entry)) ⌝ }
+{
+    if key.len() != 32 {
+        return 0;
+    }
+    if block.len() != 16 {
+        return 0;
+    }
+    if out.len() < 16 {
+        return 0;
+    }
+    let t = aes::round_table::table();
+    let mut w = [0u32; 60];
+    expand(key, &mut w);
+    copy_at(&to_bytes(encrypt(&t, &w, block_at(block, 0))), out, 0);
+    1
+}
