@@ -1,4 +1,4 @@
-//! AES-256 block encryption (FIPS 197).
+//! AES block encryption (FIPS 197), with keys of 128 and 256 bits.
 //!
 //! The state is four words, one for each column, with row 0 in the top byte.
 
@@ -6,26 +6,51 @@ mod tables;
 
 use tables::{double, S_BOX, T};
 
+/// The bytes in a key of AES-256.
 pub const KEY_LEN: usize = 32;
-pub const BLOCK_LEN: usize = 16;
 
-const KEY_WORDS: usize = KEY_LEN / 4;
-const ROUNDS: usize = 14;
+/// The bytes in a block, for keys of any length.
+pub const BLOCK_LEN: usize = 16;
 
 type State = [u32; 4];
 
-/// An expanded key.
-pub struct Aes256 {
-    round_keys: [State; ROUNDS + 1],
+/// An expanded key, for `MIDDLE` whole rounds and the last round.
+pub struct Aes<const MIDDLE: usize> {
+    first: State,
+    middle: [State; MIDDLE],
+    last: State,
+}
+
+pub type Aes128 = Aes<9>;
+pub type Aes256 = Aes<13>;
+
+impl Aes128 {
+    pub fn new(key: &[u8; 16]) -> Self {
+        let mut round_keys = [[0; 4]; 11];
+        expand(key, round_keys.as_flattened_mut());
+        let [first, middle @ .., last] = round_keys;
+        Aes {
+            first,
+            middle,
+            last,
+        }
+    }
 }
 
 impl Aes256 {
     pub fn new(key: &[u8; KEY_LEN]) -> Self {
-        let mut round_keys = [[0; 4]; ROUNDS + 1];
+        let mut round_keys = [[0; 4]; 15];
         expand(key, round_keys.as_flattened_mut());
-        Aes256 { round_keys }
+        let [first, middle @ .., last] = round_keys;
+        Aes {
+            first,
+            middle,
+            last,
+        }
     }
+}
 
+impl<const MIDDLE: usize> Aes<MIDDLE> {
     pub fn encrypt(&self, block: &[u8; BLOCK_LEN]) -> [u8; BLOCK_LEN] {
         let mut blocks = [*block];
         self.encrypt_blocks(&mut blocks);
@@ -36,32 +61,32 @@ impl Aes256 {
     /// together, which keeps more lookups under way than one block can.
     #[inline]
     pub fn encrypt_blocks<const N: usize>(&self, blocks: &mut [[u8; BLOCK_LEN]; N]) {
-        let [first, middle @ .., last] = &self.round_keys;
-        let mut states = blocks.map(|block| add(to_state(&block), first));
-        for round_key in middle {
+        let mut states = blocks.map(|block| add(to_state(&block), &self.first));
+        for round_key in &self.middle {
             for state in &mut states {
                 *state = add(round(*state), round_key);
             }
         }
-        *blocks = states.map(|state| to_bytes(add(last_round(state), last)));
+        *blocks = states.map(|state| to_bytes(add(last_round(state), &self.last)));
     }
 }
 
 /// KeyExpansion: writes the words of all round keys.
-fn expand(key: &[u8; KEY_LEN], words: &mut [u32]) {
+fn expand(key: &[u8], words: &mut [u32]) {
+    let key_words = key.len() / 4;
     for (word, bytes) in words.iter_mut().zip(key.as_chunks().0) {
         *word = u32::from_be_bytes(*bytes);
     }
     let mut round_constant = 1;
-    for i in KEY_WORDS..words.len() {
+    for i in key_words..words.len() {
         let mut word = words[i - 1];
-        if i % KEY_WORDS == 0 {
+        if i % key_words == 0 {
             word = sub_word(word.rotate_left(8)) ^ u32::from(round_constant) << 24;
             round_constant = double(round_constant);
-        } else if i % KEY_WORDS == 4 {
+        } else if key_words == 8 && i % key_words == 4 {
             word = sub_word(word);
         }
-        words[i] = words[i - KEY_WORDS] ^ word;
+        words[i] = words[i - key_words] ^ word;
     }
 }
 
@@ -69,11 +94,13 @@ fn sub_word(word: u32) -> u32 {
     u32::from_be_bytes(word.to_be_bytes().map(|byte| S_BOX[usize::from(byte)]))
 }
 
+#[inline(always)]
 fn to_state(block: &[u8; BLOCK_LEN]) -> State {
     let (columns, _) = block.as_chunks();
     std::array::from_fn(|i| u32::from_be_bytes(columns[i]))
 }
 
+#[inline(always)]
 fn to_bytes(state: State) -> [u8; BLOCK_LEN] {
     let mut block = [0; BLOCK_LEN];
     for (bytes, word) in block.as_chunks_mut().0.iter_mut().zip(state) {
@@ -113,24 +140,40 @@ fn shifted_column(state: &State, i: usize) -> [usize; 4] {
 mod tests {
     use super::*;
 
+    /// FIPS 197, appendix A.1.
+    #[test]
+    fn key_expansion_128() {
+        let key = 0x2b7e151628aed2a6abf7158809cf4f3cu128.to_be_bytes();
+        let cipher = Aes128::new(&key);
+        let second = [0xa0fafe17, 0x88542cb1, 0x23a33939, 0x2a6c7605];
+        let last = [0xd014f9a8, 0xc9ee2589, 0xe13f0cc8, 0xb6630ca6];
+        assert_eq!(cipher.middle[0], second);
+        assert_eq!(cipher.last, last);
+    }
+
     /// FIPS 197, appendix A.3.
     #[test]
-    fn key_expansion_example() {
+    fn key_expansion_256() {
         let key = [
             0x60, 0x3d, 0xeb, 0x10, 0x15, 0xca, 0x71, 0xbe, 0x2b, 0x73, 0xae, 0xf0, 0x85, 0x7d,
             0x77, 0x81, 0x1f, 0x35, 0x2c, 0x07, 0x3b, 0x61, 0x08, 0xd7, 0x2d, 0x98, 0x10, 0xa3,
             0x09, 0x14, 0xdf, 0xf4,
         ];
-        let keys = Aes256::new(&key).round_keys;
-        assert_eq!(keys[2], [0x9ba35411, 0x8e6925af, 0xa51a8b5f, 0x2067fcde]);
-        assert_eq!(keys[14], [0xfe4890d1, 0xe6188d0b, 0x046df344, 0x706c631e]);
+        let cipher = Aes256::new(&key);
+        let third = [0x9ba35411, 0x8e6925af, 0xa51a8b5f, 0x2067fcde];
+        let last = [0xfe4890d1, 0xe6188d0b, 0x046df344, 0x706c631e];
+        assert_eq!(cipher.middle[1], third);
+        assert_eq!(cipher.last, last);
     }
 
-    /// FIPS 197, appendix C.3.
+    /// FIPS 197, appendices C.1 and C.3.
     #[test]
-    fn cipher_example() {
-        let key = std::array::from_fn(|i| i as u8);
+    fn cipher_examples() {
         let block = std::array::from_fn(|i| 0x11 * i as u8);
+        let key = std::array::from_fn(|i| i as u8);
+        let expected = 0x69c4e0d86a7b0430d8cdb78070b4c55au128;
+        assert_eq!(Aes128::new(&key).encrypt(&block), expected.to_be_bytes());
+        let key = std::array::from_fn(|i| i as u8);
         let expected = 0x8ea2b7ca516745bfeafc49904b496089u128;
         assert_eq!(Aes256::new(&key).encrypt(&block), expected.to_be_bytes());
     }

@@ -1,6 +1,7 @@
 //! AES-256-GCM (SP 800-38D) with a 96-bit nonce and a 128-bit tag.
 
 use crate::aes::{Aes256, BLOCK_LEN, KEY_LEN};
+use crate::ctr;
 use crate::ghash::GhashKey;
 
 pub const NONCE_LEN: usize = 12;
@@ -8,9 +9,6 @@ pub const TAG_LEN: usize = 16;
 
 /// The longest plaintext: as many blocks as the 32-bit counter can number.
 pub const MAX_LEN: u64 = (1 << 36) - 32;
-
-/// Blocks of key stream made at a time.
-const GROUP: usize = 4;
 
 /// Gives the ciphertext and then the tag.
 ///
@@ -80,49 +78,22 @@ impl Aes256Gcm {
     /// The tag of a ciphertext: its hash, encrypted with counter 1.
     fn tag(&self, nonce: &[u8; NONCE_LEN], aad: &[u8], ciphertext: &[u8]) -> [u8; TAG_LEN] {
         let mut tag = self.hash_key.hash(aad, ciphertext);
-        xor(&mut tag, self.keystream::<1>(nonce, 1).as_flattened());
+        ctr::apply(&self.cipher, first_counter(nonce), &mut tag);
         tag
     }
 
     /// Counter mode, from counter 2. Encrypts and decrypts.
     fn apply_keystream(&self, nonce: &[u8; NONCE_LEN], data: &mut [u8]) {
-        let mut counter = 2u32;
-        let (groups, rest) = data.as_chunks_mut::<{ GROUP * BLOCK_LEN }>();
-        for group in groups {
-            let stream = self.keystream::<GROUP>(nonce, counter);
-            xor(group, stream.as_flattened());
-            counter = counter.wrapping_add(GROUP as u32);
-        }
-        for block in rest.chunks_mut(BLOCK_LEN) {
-            let stream = self.keystream::<1>(nonce, counter);
-            xor(block, stream.as_flattened());
-            counter = counter.wrapping_add(1);
-        }
-    }
-
-    /// Key stream blocks, with consecutive counters.
-    fn keystream<const N: usize>(
-        &self,
-        nonce: &[u8; NONCE_LEN],
-        counter: u32,
-    ) -> [[u8; BLOCK_LEN]; N] {
-        let mut blocks = std::array::from_fn(|i| {
-            let mut block = [0; BLOCK_LEN];
-            let (start, end) = block.split_at_mut(NONCE_LEN);
-            start.copy_from_slice(nonce);
-            end.copy_from_slice(&counter.wrapping_add(i as u32).to_be_bytes());
-            block
-        });
-        self.cipher.encrypt_blocks(&mut blocks);
-        blocks
+        ctr::apply(&self.cipher, first_counter(nonce) + 1, data);
     }
 }
 
-/// Adds the key stream, of which the end may be left over.
-fn xor(data: &mut [u8], stream: &[u8]) {
-    for (byte, key) in data.iter_mut().zip(stream) {
-        *byte ^= key;
-    }
+/// The nonce and then a 32-bit counter of 1. No message within [`MAX_LEN`]
+/// has so many blocks that the counter reaches the nonce.
+fn first_counter(nonce: &[u8; NONCE_LEN]) -> u128 {
+    let mut block = [0; BLOCK_LEN];
+    block[..NONCE_LEN].copy_from_slice(nonce);
+    u128::from_be_bytes(block) + 1
 }
 
 /// Compares as whole integers: the time does not tell where they differ.

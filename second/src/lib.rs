@@ -1,13 +1,19 @@
-//! AES-256 and AES-256-GCM in plain Rust, written from FIPS 197 and
-//! SP 800-38D.
+//! AES with the modes GCM, CMAC and SIV, SHA-1 and text encodings in plain
+//! Rust, written from the standards that each module names.
 //!
-//! Both work by table lookups at places that depend on the key and the data,
-//! so the time they take can tell about them to a program that shares the
-//! processor's cache.
+//! AES and GHASH work by table lookups at places that depend on the key and
+//! the data, so the time they take can tell about them to a program that
+//! shares the processor's cache. The encodings look up their data likewise.
 
 #![forbid(unsafe_code)]
 
 pub mod aes;
+pub mod base32;
+pub mod base64url;
+pub mod cmac;
+pub mod ctr;
 pub mod gcm;
 pub mod ghash;
 pub mod hex;
+pub mod sha1;
+pub mod siv;

@@ -5,20 +5,24 @@ mod common {
 }
 
 use common::primitives::{self, DONE, REFUSED};
-use second::{aes::Aes256, gcm, hex};
+use second::aes::{Aes128, Aes256};
+use second::cmac::{self, Cmac};
+use second::siv::{self, Siv};
+use second::{base32, base64url, gcm, hex, sha1};
 
 /// What is in `out` before a call.
 const OLD: u8 = 0xa5;
 
-/// The lines of a file, each with `N` fields.
-fn cases<const N: usize>(file: &str) -> Vec<[&str; N]> {
+/// The fields of each line of a file.
+fn lines(file: &str) -> impl Iterator<Item = Vec<&str>> {
     let lines = file.lines().filter(|line| !line.starts_with('#'));
-    lines.map(fields).collect()
+    lines.map(|line| line.split(' ').collect())
 }
 
-fn fields<const N: usize>(line: &str) -> [&str; N] {
-    let fields: Vec<_> = line.split(' ').collect();
-    fields.try_into().expect("another number of fields")
+/// The lines of a file, each with `N` fields.
+fn cases<const N: usize>(file: &str) -> Vec<[&str; N]> {
+    let sized = |fields: Vec<_>| fields.try_into().expect("another number of fields");
+    lines(file).map(sized).collect()
 }
 
 fn bytes(field: &str) -> Vec<u8> {
@@ -84,4 +88,169 @@ fn gcm256_open() {
         genuine += usize::from(verdict == "ok");
     }
     assert_eq!(genuine, 42);
+}
+
+/// Only `second` has CMAC with AES-128.
+#[test]
+fn cmac128() {
+    let cases = cases(include_str!("../vectors/cmac128.txt"));
+    assert_eq!(cases.len(), 4);
+    for [key, message, mac] in cases {
+        let cmac = Cmac::new(Aes128::new(&array(key)));
+        assert_eq!(cmac.mac(&bytes(message)), array(mac));
+    }
+}
+
+#[test]
+fn cmac256() {
+    let cases = cases(include_str!("../vectors/cmac256.txt"));
+    assert_eq!(cases.len(), 4);
+    for [key, message, mac] in cases {
+        let (key, message, mac) = (array(key), bytes(message), array(mac));
+        assert_eq!(cmac::mac(&key, &message), mac);
+
+        let mut out = [OLD; 16];
+        assert_eq!(primitives::cmac256(&key, &message, &mut out), DONE);
+        assert_eq!(out, mac);
+    }
+}
+
+/// One vector of `siv.txt`, with the two halves of the key.
+struct SivCase {
+    cipher: &'static str,
+    keys: [Vec<u8>; 2],
+    plaintext: Vec<u8>,
+    sealed: Vec<u8>,
+    ad: Vec<Vec<u8>>,
+}
+
+fn siv_cases(cipher: &str) -> Vec<SivCase> {
+    let lines = lines(include_str!("../vectors/siv.txt"));
+    let cases = lines.map(|fields| {
+        let [cipher, key, iv, plaintext, ciphertext, ad @ ..] = &fields[..] else {
+            panic!("too few fields");
+        };
+        let (mac_key, ctr_key) = key.split_at(key.len() / 2);
+        SivCase {
+            cipher,
+            keys: [bytes(mac_key), bytes(ctr_key)],
+            plaintext: bytes(plaintext),
+            sealed: [bytes(iv), bytes(ciphertext)].concat(),
+            ad: ad.iter().map(|string| bytes(string)).collect(),
+        }
+    });
+    cases.filter(|case| case.cipher == cipher).collect()
+}
+
+/// Only `second` has SIV with AES-128 and with lists of associated data.
+#[test]
+fn siv128() {
+    let cases = siv_cases("aes-128-siv");
+    let ad_counts: Vec<_> = cases.iter().map(|case| case.ad.len()).collect();
+    assert_eq!(ad_counts, [1, 3]);
+    for case in cases {
+        let [mac, ctr] = case.keys.map(|key| key.try_into().expect("another length"));
+        let siv = Siv::new(Aes128::new(&mac), Aes128::new(&ctr));
+        let ad: Vec<_> = case.ad.iter().map(Vec::as_slice).collect();
+        assert_eq!(siv.seal(&ad, &case.plaintext), case.sealed);
+        assert_eq!(siv.open(&ad, &case.sealed), Some(case.plaintext));
+    }
+}
+
+#[test]
+fn siv256() {
+    let cases = siv_cases("aes-256-siv");
+    assert_eq!(cases.len(), 1);
+    for case in cases {
+        let [mac, enc] = case.keys.map(|key| key.try_into().expect("another length"));
+        let (plaintext, sealed) = (case.plaintext, case.sealed);
+        let [ad] = &case.ad[..] else {
+            panic!("another number of strings");
+        };
+        assert_eq!(siv::seal(&mac, &enc, &[ad], &plaintext), sealed);
+        assert_eq!(
+            siv::open(&mac, &enc, &[ad], &sealed),
+            Some(plaintext.clone())
+        );
+
+        let mut out = vec![OLD; sealed.len()];
+        let status = primitives::siv_seal(&mac, &enc, 1, ad, &plaintext, &mut out);
+        assert_eq!(status, DONE);
+        assert_eq!(out, sealed);
+
+        let mut out = vec![OLD; plaintext.len()];
+        let status = primitives::siv_open(&mac, &enc, 1, ad, &sealed, &mut out);
+        assert_eq!(status, DONE);
+        assert_eq!(out, plaintext);
+    }
+}
+
+fn check_sha1(message: &[u8], digest: [u8; 20]) {
+    assert_eq!(sha1::digest(message), digest);
+    let mut out = [OLD; 20];
+    assert_eq!(primitives::sha1(message, &mut out), DONE);
+    assert_eq!(out, digest);
+}
+
+#[test]
+fn sha1_messages() {
+    let cases = cases(include_str!("../vectors/sha1.txt"));
+    assert_eq!(cases.len(), 45);
+    for [message, digest] in cases {
+        check_sha1(&bytes(message), array(digest));
+    }
+}
+
+/// A million times "a".
+#[test]
+fn sha1_long() {
+    let digest = array("34aa973cd4c4daa4f61eeb2bdbad27316534016f");
+    check_sha1(&[b'a'; 1_000_000], digest);
+}
+
+/// The whole group of RFC 4648, section 10, as often as 20 bytes take.
+#[test]
+fn base32_groups() {
+    let (data, text) = ("fooba".repeat(4), "MZXW6YTB".repeat(4));
+    assert_eq!(base32::encode(data.as_bytes()), text);
+    let mut out = [OLD; 32];
+    assert_eq!(primitives::base32(data.as_bytes(), &mut out), DONE);
+    assert_eq!(out, text.as_bytes());
+}
+
+/// RFC 4648, section 10, also without the padding.
+#[test]
+fn base64url_groups() {
+    for (data, text) in [
+        ("", ""),
+        ("f", "Zg=="),
+        ("fo", "Zm8="),
+        ("foo", "Zm9v"),
+        ("foob", "Zm9vYg=="),
+        ("fooba", "Zm9vYmE="),
+        ("foobar", "Zm9vYmFy"),
+    ] {
+        check_base64url(data.as_bytes(), text, true);
+        check_base64url(data.as_bytes(), text.trim_end_matches('='), false);
+    }
+}
+
+fn check_base64url(data: &[u8], text: &str, padded: bool) {
+    assert_eq!(base64url::encode(data, padded), text);
+    assert_eq!(
+        base64url::decode(text.as_bytes(), padded),
+        Some(data.to_vec())
+    );
+
+    let mut out = vec![OLD; text.len()];
+    let flag = u32::from(padded);
+    assert_eq!(primitives::base64url_encode(data, flag, &mut out), DONE);
+    assert_eq!(out, text.as_bytes());
+
+    let mut out = vec![OLD; data.len()];
+    let mut length = u64::MAX;
+    let status = primitives::base64url_decode(text.as_bytes(), flag, &mut out, &mut length);
+    assert_eq!(status, DONE);
+    assert_eq!(out, data);
+    assert_eq!(length, data.len() as u64);
 }

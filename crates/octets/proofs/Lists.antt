@@ -2,7 +2,7 @@
 -- Assumes nothing.
 use Prim.Native.Nat.{ℕ, zero, suc, _+_, _-_, _≤_, _<_}
 use mathlib.Core.Path.{_≡_, refl, sym, ap, _∙_}
-use mathlib.Core.List.{List, [], _∷_, _++_, append-nil, append-assoc}
+use mathlib.Core.List.{List, [], _∷_, _++_, map, append-nil, append-assoc}
 use mathlib.Core.Logic.{_⊎_, inl, inr}
 use native.Mathlib.Nat.{not-suc-le-zero, le-of-suc-le-suc, add-zero}
 use native.Mathlib.Numerals.{add-one}
@@ -91,6 +91,34 @@ placed-next s d p at k h j e =
     let g : at + k + length p ≡ at + (k + length p) = omega arith in
     rw (a, b, append-assoc (take at d) (take k s) p, f, g)
 
+-- ---- a buffer whose rest, after its first m places, is lent, and gets g at its front
+
+-- What went before was x.
+pub placed-more : (x g d o part : List ℕ) (m : ℕ) → length x ≡ m → o ≡ x ++ drop m d → part ≡ placed g 0 (take (length o - m) (drop m o))
+    → take m o ++ (part ++ drop (length o - m) (drop m o)) ≡ (x ++ g) ++ drop (m + length g) d
+placed-more x g d o part m l e p =
+    let a : take m o ≡ x = ap (take m) e ∙ take-at x (drop m d) m l in
+    let b : drop m o ≡ drop m d = ap (drop m) e ∙ drop-at x (drop m d) m l in
+    let c : take (length o - m) (drop m o) ≡ drop m o = part-rest o (length o) m refl in
+    let f : drop (length o - m) (drop m o) ≡ [] = drop-all (length o - m) (drop m o) (rw length-drop (omega arith)) in
+    let h : drop (0 + length g) (drop m d) ≡ drop (m + length g) d = rw drop-drop (ap (λ (k : ℕ). drop (m + k) d) (omega arith)) in
+    let q : part ≡ g ++ drop (m + length g) d = p ∙ rw (c, b, h) in
+    rw (a, f, append-nil, q) (sym (append-assoc x g (drop (m + length g) d)))
+
+-- Then both are t, all that is written.
+pub placed-end : (x g t d o part : List ℕ) (m : ℕ) → length x ≡ m → o ≡ x ++ drop m d → part ≡ placed g 0 (take (length o - m) (drop m o)) → x ++ g ≡ t
+    → take m o ++ (part ++ drop (length o - m) (drop m o)) ≡ placed t 0 d
+placed-end x g t d o part m l e p q =
+    let k : m + length g ≡ 0 + length t = omega (arith, length-append x g, ap length q) in
+    placed-more x g d o part m l e p ∙ rw (q, k)
+
+-- ---- images
+
+pub map-drop : (f : ℕ → ℕ) (n : ℕ) (l : List ℕ) → map f (drop n l) ≡ drop n (map f l)
+map-drop f zero l = refl
+map-drop f (suc n) [] = refl
+map-drop f (suc n) (x ∷ l) = map-drop f n l
+
 -- ---- zeros
 
 pub take-replicate : (n m x : ℕ) → n ≤ m → take n (replicate m x) ≡ replicate n x
@@ -115,3 +143,6 @@ pub take-tab : (n : ℕ) (l : List ℕ) → n ≤ length l → take n l ≡ tab 
 take-tab zero l h = refl
 take-tab (suc n) [] h = absurd (not-suc-le-zero h)
 take-tab (suc n) (x ∷ l) h = ap (λ (t : List ℕ). x ∷ t) (take-tab n l (le-of-suc-le-suc h))
+
+pub list-tab : (n : ℕ) (l : List ℕ) → length l ≡ n → l ≡ tab n (λ k. getD l k 0)
+list-tab n l h = sym (take-all n l (omega arith)) ∙ take-tab n l (omega arith)

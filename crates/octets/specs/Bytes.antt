@@ -13,7 +13,7 @@ pub record Below (m : ℕ) (s : List ℕ) : Type 0 where
 abbrev pub Bytes : List ℕ → Type 0
 Bytes s = Below 256 s
 
--- d with its first i places taken from s, the rest as it was; both have i places.
+-- d with its first i places taken from s, the rest as it was; both have at least i places.
 abbrev pub filled : List ℕ → ℕ → List ℕ → List ℕ
 filled s i d = take i s ++ drop i d
 

@@ -8,6 +8,8 @@ use lib.ListN.{length}
 use Rattle.octets.specs.Bytes.{placed}
 use Rattle.aes_spec.specs.Cipher.{aes}
 use Rattle.gcm.specs.Gcm.{seal, good, plain}
+use Rattle.encoding.specs.Base32 as base32
+use Rattle.encoding.specs.Base64url as base64url
 use Rattle.sha1.specs.Message.{sha1}
 use Rattle.siv.specs.Cmac.{cmac}
 use Rattle.siv.specs.Siv as siv
@@ -69,3 +71,11 @@ sivOpen mac enc given ad sealed d =
 
 unfoldable pub sha1Digest : List ℕ → List ℕ → End
 sha1Digest message d = doneIf (leb 20 (length d)) (sha1 message) d
+
+unfoldable pub base32Text : List ℕ → List ℕ → End
+base32Text bytes d = doneIf (eqb (length bytes) 20 && leb 32 (length d)) (base32.encode bytes) d
+
+unfoldable pub base64urlText : List ℕ → ℕ → List ℕ → End
+base64urlText bytes padded d =
+    doneIf (leb (length bytes) (2 ^ 32) && leb (base64url.encodedLength (isSet padded) (length bytes)) (length d))
+    (base64url.encode (isSet padded) bytes) d

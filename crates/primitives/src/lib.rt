@@ -4,3 +4,4 @@ pub mod authenticated;
 pub mod cipher;
 pub mod deterministic;
 pub mod hash;
+pub mod text;

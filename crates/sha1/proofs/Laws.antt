@@ -6,17 +6,22 @@ use mathlib.Core.List.{List, [], _∷_}
 use native.Mathlib.Omega.{arith}
 use native.Mathlib.Nat.{mod-lt}
 use lib.Pow.{pow-pos}
-use lib.ListN.{length}
+use lib.ListN.{length, length-append, length-replicate}
 use Rattle.octets.specs.Bytes.{Below}
+use Rattle.octets.proofs.BigEndian.{length-be}
 use Rattle.octets.proofs.Bytes.{below-nil, below-cons, bytes-wordBytes}
 use Rattle.octets.proofs.Words.{length-wordBytes}
 use Rattle.sha1.specs.Operations.{plus}
 use Rattle.sha1.specs.Compression.{Variables, vars, added, compress}
-use Rattle.sha1.specs.Message.{padded, initial, hashFrom, sha1}
-use Rattle.sha1.specs.Statements.{LeastPadding, TwentyBytes}
+use Rattle.sha1.specs.Message.{padding, padded, initial, hashFrom, sha1}
+use Rattle.sha1.specs.Statements.{LeastPadding, WholeBlocks, TwentyBytes}
 
 pub least-padding : LeastPadding
 least-padding n = (omega arith, omega arith)
+
+pub whole-blocks : WholeBlocks
+unfolding padding padded
+whole-blocks m = simp (length-append, length-replicate, length-be) (omega arith)
 
 -- Five words.
 abbrev Five : List ℕ → Type 0

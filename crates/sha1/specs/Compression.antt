@@ -8,7 +8,7 @@ use lib.Bits.{bitXor}
 use Rattle.octets.specs.Words.{words}
 use Rattle.sha1.specs.Operations.{plus, rotl, ch, parity, maj}
 
--- What belongs to the quarter t / 20 of the steps, which is 0, 1, 2 or 3.
+-- Of four things the one for a quarter of the 80 steps, 0, 1, 2 or 3. The step t is in the quarter t / 20.
 abbrev pub inQuarter : {A : Type 0} → A → A → A → A → ℕ → A
 inQuarter a b c d zero = a
 inQuarter a b c d (suc zero) = b

@@ -11,7 +11,7 @@ plus x y = (x + y) % 2 ^ 32
 abbrev pub complement : ℕ → ℕ
 complement x = 2 ^ 32 - 1 - x
 
--- 3.2: ROTL, by n places: the word shifted left, or the word shifted right by the other 32 - n.
+-- 3.2: ROTL by n places, the bitwise or of the word shifted left by n and the word shifted right by 32 - n.
 unfoldable pub rotl : ℕ → ℕ → ℕ
 rotl n x = bitOr (x * 2 ^ n % 2 ^ 32) (x / 2 ^ (32 - n))
 

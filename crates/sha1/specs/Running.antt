@@ -7,7 +7,8 @@ use lib.ListN.{length, take, drop}
 use Rattle.sha1.specs.Message.{initial, hashFrom}
 use Rattle.sha1.specs.declared.Sha1.{Sha1}
 
--- The state after the message m: the hash value of its whole blocks, then the bytes after them, then its length modulo 2^64.
+-- A state after the message m: the hash value of its whole blocks, the bytes after them (the other places of `waiting` are
+-- free), and its number of bytes modulo 2^64.
 pub record Running (t : Sha1) (m : List ℕ) : Type 0 where
   pub hashed : t .words ≡ hashFrom initial m (length m / 64)
   pub rest : take (length m % 64) (t .waiting) ≡ drop (64 * (length m / 64)) m

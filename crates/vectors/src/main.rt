@@ -7,6 +7,8 @@ use primitives::deterministic::primitives_cmac256;
 use primitives::deterministic::primitives_siv_open;
 use primitives::deterministic::primitives_siv_seal;
 use primitives::hash::primitives_sha1;
+use primitives::text::primitives_base32;
+use primitives::text::primitives_base64url_encode;
 
 // The bytes in hex, on a line.
 fn print(bytes: &[u8]) {
@@ -79,10 +81,23 @@ fn sha1() {
     print(&out);
 }
 
+// RFC 4648's example "fooba": four times in base32, and in base64url with padding.
+fn text() {
+    let mut base32 = [0u8; 32];
+    primitives_base32(b"foobafoobafoobafooba", &mut base32);
+    io::write_all(STDOUT_FILENO, &base32);
+    io::write_all(STDOUT_FILENO, b"\n");
+    let mut base64url = [0u8; 8];
+    primitives_base64url_encode(b"fooba", 1, &mut base64url);
+    io::write_all(STDOUT_FILENO, &base64url);
+    io::write_all(STDOUT_FILENO, b"\n");
+}
+
 fn main() {
     aes256();
     gcm();
     cmac();
     siv();
     sha1();
+    text();
 }

@@ -21,7 +21,12 @@ pub fn gcm_seal(key: &[u8], nonce: &[u8], aad: &[u8], cleartext: &[u8], out: &[u
     let actual = run(out, |out| {
         primitives::gcm_seal(key, nonce, aad, cleartext, out)
     });
-    compare("seal", &[key, nonce, aad, cleartext], &predicted, &actual)
+    compare(
+        "gcm_seal",
+        &[key, nonce, aad, cleartext],
+        &predicted,
+        &actual,
+    )
 }
 
 pub fn gcm_open(key: &[u8], nonce: &[u8], aad: &[u8], sealed: &[u8], out: &[u8]) -> bool {
@@ -29,7 +34,74 @@ pub fn gcm_open(key: &[u8], nonce: &[u8], aad: &[u8], sealed: &[u8], out: &[u8])
     let actual = run(out, |out| {
         primitives::gcm_open(key, nonce, aad, sealed, out)
     });
-    compare("open", &[key, nonce, aad, sealed], &predicted, &actual)
+    compare("gcm_open", &[key, nonce, aad, sealed], &predicted, &actual)
+}
+
+pub fn cmac256(key: &[u8], message: &[u8], out: &[u8]) -> bool {
+    let predicted = predict::cmac256(key, message, out);
+    let actual = run(out, |out| primitives::cmac256(key, message, out));
+    compare("cmac256", &[key, message], &predicted, &actual)
+}
+
+pub fn siv_seal(
+    mac_key: &[u8],
+    enc_key: &[u8],
+    ad_given: u32,
+    ad: &[u8],
+    cleartext: &[u8],
+    out: &[u8],
+) -> bool {
+    let predicted = predict::siv_seal(mac_key, enc_key, ad_given, ad, cleartext, out);
+    let actual = run(out, |out| {
+        primitives::siv_seal(mac_key, enc_key, ad_given, ad, cleartext, out)
+    });
+    let inputs = [mac_key, enc_key, ad, cleartext];
+    compare("siv_seal", &inputs, &predicted, &actual)
+}
+
+pub fn siv_open(
+    mac_key: &[u8],
+    enc_key: &[u8],
+    ad_given: u32,
+    ad: &[u8],
+    sealed: &[u8],
+    out: &[u8],
+) -> bool {
+    let predicted = predict::siv_open(mac_key, enc_key, ad_given, ad, sealed, out);
+    let actual = run(out, |out| {
+        primitives::siv_open(mac_key, enc_key, ad_given, ad, sealed, out)
+    });
+    let inputs = [mac_key, enc_key, ad, sealed];
+    compare("siv_open", &inputs, &predicted, &actual)
+}
+
+pub fn sha1(message: &[u8], out: &[u8]) -> bool {
+    let predicted = predict::sha1(message, out);
+    let actual = run(out, |out| primitives::sha1(message, out));
+    compare("sha1", &[message], &predicted, &actual)
+}
+
+pub fn base32(data: &[u8], out: &[u8]) -> bool {
+    let predicted = predict::base32(data, out);
+    let actual = run(out, |out| primitives::base32(data, out));
+    compare("base32", &[data], &predicted, &actual)
+}
+
+pub fn base64url_encode(data: &[u8], padded: u32, out: &[u8]) -> bool {
+    let predicted = predict::base64url_encode(data, padded, out);
+    let actual = run(out, |out| primitives::base64url_encode(data, padded, out));
+    compare("base64url_encode", &[data], &predicted, &actual)
+}
+
+pub fn base64url_decode(text: &[u8], padded: u32, out: &[u8], length: u64) -> bool {
+    let (predicted, later_length) = predict::base64url_decode(text, padded, out, length);
+    let mut lengths = [!length, length, !length];
+    let actual = run(out, |out| {
+        primitives::base64url_decode(text, padded, out, &mut lengths[1])
+    });
+    let done = compare("base64url_decode", &[text], &predicted, &actual);
+    assert_eq!(lengths, [!length, later_length, !length], "wrong length");
+    done
 }
 
 /// Makes the call on a copy of `out` between two guards.

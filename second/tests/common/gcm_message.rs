@@ -1,6 +1,7 @@
-//! A message with its sealed form, and damaged copies of it.
+//! A message with its sealed form by GCM.
 
 use super::check;
+use super::damage::Damage;
 use super::random::Random;
 use second::gcm::{self, TAG_LEN};
 
@@ -54,42 +55,11 @@ impl Message {
     pub fn opens_to(&self, out: &[u8]) -> bool {
         check::gcm_open(&self.key, &self.nonce, &self.aad, &self.sealed, out)
     }
+}
 
-    /// All copies with one bit flipped in the key, nonce, aad or sealed form.
-    pub fn one_bit_flips(&self) -> impl Iterator<Item = Message> + '_ {
-        let lengths = self.clone().inputs().map(|input| input.len());
-        let bits = |(input, len)| (0..8 * len).map(move |bit| (input, bit));
-        let places = lengths.into_iter().enumerate().flat_map(bits);
-        places.map(|(input, bit)| self.flipped(input, bit))
-    }
-
-    /// One of these copies for each of the inputs that is not empty.
-    pub fn random_flips(&self, random: &mut Random) -> Vec<Message> {
-        let lengths = self.clone().inputs().map(|input| input.len());
-        let inputs = (0..lengths.len()).filter(|&input| lengths[input] > 0);
-        inputs
-            .map(|input| self.flipped(input, random.below(8 * lengths[input])))
-            .collect()
-    }
-
-    /// A copy with the sealed form cut or made longer.
-    pub fn with_sealed_len(&self, random: &mut Random, len: usize) -> Message {
-        let mut copy = self.clone();
-        let missing = len.saturating_sub(self.sealed.len());
-        copy.sealed.truncate(len);
-        copy.sealed.extend(random.bytes(missing));
-        copy
-    }
-
-    fn flipped(&self, input: usize, bit: usize) -> Message {
-        let mut copy = self.clone();
-        copy.inputs()[input][bit / 8] ^= 1 << (bit % 8);
-        copy
-    }
-
-    /// What opening takes.
-    fn inputs(&mut self) -> [&mut Vec<u8>; 4] {
-        [
+impl Damage for Message {
+    fn inputs(&mut self) -> Vec<&mut Vec<u8>> {
+        vec![
             &mut self.key,
             &mut self.nonce,
             &mut self.aad,

@@ -1,0 +1,9 @@
+pub mod Sextets
+pub mod Characters
+pub mod Padding
+pub mod Laws
+pub mod Groups
+pub mod Texts
+pub mod Answers
+pub mod Quintets
+pub mod Vectors
