@@ -1,3 +1,4 @@
 pub mod SBoxRule
 pub mod RoundTableRule
+pub mod ByteStrings
 pub mod Vectors

@@ -5,10 +5,13 @@ use mathlib.Core.Path.{_≡_, refl, sym, _∙_, ap, ap₂}
 use mathlib.Core.List.{List, [], _∷_, _++_}
 use mathlib.Core.Logic.{⊎-elim}
 use native.Mathlib.Omega.{arith}
+use lib.Dec.{lit<}
 use lib.ListN.{length, take, drop, getD, length-append, length-drop, List·getD-append}
 use lib.Seq.{getD-append-add, getD-drop, getD-take, length-take-le, ext-getD}
 use lib.Bits.{bitXor}
+use Rattle.octets.specs.Bytes.{Bytes}
 use Rattle.octets.specs.Xors.{xors}
+use Rattle.octets.proofs.Bytes.{below-nil, below-append, bytes-xors}
 use Rattle.octets.proofs.Lists.{le-or-lt}
 use Rattle.octets.proofs.Xors.{getD-xors, length-xors, xors-twice}
 use Rattle.ctr.specs.Ctr.{blocks, inc32, keystream, ctr}
@@ -34,6 +37,18 @@ module _ (inc e : List ℕ → List ℕ) (le : (s : List ℕ) → length (e s) �
 
   pub ctr-twice : (c s : List ℕ) → ctr inc e c (ctr inc e c s) ≡ s
   ctr-twice c s = again c s (ctr inc e c s) (length-ctr c s) refl
+
+-- ---- byte strings
+
+module _ (inc e : List ℕ → List ℕ) (bs : (s : List ℕ) → Bytes (e s)) where
+  keystream-bytes : (c : List ℕ) (m : ℕ) → Bytes (keystream inc e c m)
+  unfolding keystream
+  keystream-bytes c zero = below-nil (lit< tt)
+  keystream-bytes c (suc m) = below-append (bs c) (keystream-bytes (inc c) m)
+
+  pub ctr-bytes : (c : List ℕ) {s : List ℕ} → Bytes s → Bytes (ctr inc e c s)
+  unfolding ctr
+  ctr-bytes c h = bytes-xors h (keystream-bytes c _)
 
 -- ---- over a counter of 32 bits
 

@@ -7,14 +7,15 @@ use mathlib.Core.List.{List, _++_}
 use native.Mathlib.Omega.{arith}
 use lib.ListN.{length, take, drop, length-append, take-append-drop}
 use lib.Seq.{take-at, drop-at, length-take-le}
-use Rattle.octets.specs.Bytes.{same}
+use Rattle.octets.specs.Bytes.{Bytes, same}
 use Rattle.octets.specs.BigEndian.{be}
 use Rattle.octets.proofs.BigEndian.{length-be}
+use Rattle.octets.proofs.Bytes.{below-append, below-take, bytes-be}
 use Rattle.octets.proofs.Equality.{same-self, same-eq}
 use Rattle.ctr.specs.Ctr.{inc32}
-use Rattle.ctr.proofs.Texts.{length-ctr, ctr-twice}
+use Rattle.ctr.proofs.Texts.{length-ctr, ctr-twice, ctr-bytes}
 use Rattle.gcm.specs.Gcm.{crypt, subkey, hashed, j0, tag, seal, good, plain}
-use Rattle.gcm.specs.Statements.{SealedOpens, OpenedWasSealed, Lengths}
+use Rattle.gcm.specs.Statements.{SealedOpens, OpenedWasSealed, Lengths, KeepsBytes}
 
 module _ (e : List ℕ → List ℕ) (le : (s : List ℕ) → length (e s) ≡ 16) where
   pub length-crypt : (iv s : List ℕ) → length (crypt e iv s) ≡ length s
@@ -75,3 +76,10 @@ opened-was-sealed e le iv a s h = seal-plain e le iv a s h
 
 pub lengths : Lengths
 lengths e le iv a p s = (length-seal e le iv a p, length-plain e le iv s)
+
+pub keeps-bytes : KeepsBytes
+unfolding crypt tag seal plain
+keeps-bytes e bs iv a = (
+  λ p h. below-append (ctr-bytes inc32 e bs (inc32 (j0 iv)) h) (ctr-bytes inc32 e bs (j0 iv) (bytes-be 16 _)),
+  λ s h. ctr-bytes inc32 e bs (inc32 (j0 iv)) (below-take (length s - 16) h),
+)

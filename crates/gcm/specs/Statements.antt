@@ -6,6 +6,7 @@ use mathlib.Core.Bool.{true}
 use mathlib.Core.List.{List}
 use lib.ListN.{length}
 use Rattle.ctr.specs.Ctr.{BlockCipher}
+use Rattle.octets.specs.Bytes.{Bytes}
 use Rattle.gcm.specs.Gcm.{seal, good, plain}
 
 -- What was sealed opens to what went in.
@@ -19,3 +20,9 @@ OpenedWasSealed = (e : List ℕ → List ℕ) → BlockCipher e → (iv a s : Li
 -- Sealing adds the 16 bytes of the tag, and opening takes them away.
 abbrev pub Lengths : Type 0
 Lengths = (e : List ℕ → List ℕ) → BlockCipher e → (iv a p s : List ℕ) → (length (seal e iv a p) ≡ length p + 16) × (length (plain e iv s) ≡ length s - 16)
+
+-- A byte string is sealed to a byte string, and opens to one, if the block cipher gives byte strings.
+abbrev pub KeepsBytes : Type 0
+KeepsBytes =
+    (e : List ℕ → List ℕ) → ((s : List ℕ) → Bytes (e s)) → (iv a : List ℕ)
+    → ((p : List ℕ) → Bytes p → Bytes (seal e iv a p)) × ((s : List ℕ) → Bytes s → Bytes (plain e iv s))

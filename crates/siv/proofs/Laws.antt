@@ -7,13 +7,14 @@ use mathlib.Core.List.{List, [], _∷_, _++_}
 use native.Mathlib.Omega.{arith}
 use lib.ListN.{length, take, drop, length-append, length-take, length-drop, take-append-drop}
 use lib.Seq.{take-at, drop-at}
-use Rattle.octets.specs.Bytes.{same}
+use Rattle.octets.specs.Bytes.{Bytes, same}
+use Rattle.octets.proofs.Bytes.{below-append, below-drop}
 use Rattle.octets.proofs.Equality.{same-self, same-eq}
 use Rattle.ctr.specs.Ctr.{BlockCipher, ctr}
-use Rattle.ctr.proofs.Texts.{length-ctr, ctr-twice}
+use Rattle.ctr.proofs.Texts.{length-ctr, ctr-twice, ctr-bytes}
 use Rattle.siv.specs.Cmac.{cmacFrom, cmac}
 use Rattle.siv.specs.Siv.{s2vLast, s2vFrom, s2v, inc, counterOf, crypt, plain, seal, good}
-use Rattle.siv.specs.Statements.{SealedOpens, OpenedWasSealed, Lengths}
+use Rattle.siv.specs.Statements.{SealedOpens, OpenedWasSealed, Lengths, KeepsBytes}
 
 module _ (mac : List ℕ → List ℕ) (lm : BlockCipher mac) where
   pub length-cmac : (m : List ℕ) → length (cmac mac m) ≡ 16
@@ -87,3 +88,25 @@ opened-was-sealed mac enc lm le ads z h = seal-plain mac enc lm le ads z h
 
 pub lengths : Lengths
 lengths mac enc lm le ads p z = (length-seal mac enc lm le ads p, length-plain enc le z)
+
+module _ (mac : List ℕ → List ℕ) (bs : (s : List ℕ) → Bytes (mac s)) where
+  cmac-bytes : (m : List ℕ) → Bytes (cmac mac m)
+  unfolding cmacFrom cmac
+  cmac-bytes m = bs _
+
+  from-bytes : (d s : List ℕ) (r : List (List ℕ)) → Bytes (s2vFrom mac d s r)
+  unfolding s2vLast s2vFrom
+  from-bytes d s [] = cmac-bytes _
+  from-bytes d s (t ∷ r) = from-bytes _ t r
+
+  s2v-bytes : (ss : List (List ℕ)) → Bytes (s2v mac ss)
+  unfolding s2v
+  s2v-bytes [] = cmac-bytes _
+  s2v-bytes (s ∷ r) = from-bytes _ s r
+
+pub keeps-bytes : KeepsBytes
+unfolding crypt seal plain
+keeps-bytes mac enc ms es ads = (
+  λ p h. below-append (s2v-bytes mac ms (ads ++ (p ∷ []))) (ctr-bytes inc enc es _ h),
+  λ z h. ctr-bytes inc enc es _ (below-drop 16 h),
+)

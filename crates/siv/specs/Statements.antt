@@ -6,6 +6,7 @@ use mathlib.Core.Bool.{true}
 use mathlib.Core.List.{List}
 use lib.ListN.{length}
 use Rattle.ctr.specs.Ctr.{BlockCipher}
+use Rattle.octets.specs.Bytes.{Bytes}
 use Rattle.siv.specs.Siv.{seal, good, plain}
 
 -- What was sealed opens to what went in.
@@ -25,3 +26,9 @@ abbrev pub Lengths : Type 0
 Lengths =
     (mac enc : List ℕ → List ℕ) → BlockCipher mac → BlockCipher enc → (ads : List (List ℕ)) (p z : List ℕ)
     → (length (seal mac enc ads p) ≡ length p + 16) × (length (plain enc z) ≡ length z - 16)
+
+-- A byte string is sealed to a byte string, and opens to one, if the block ciphers give byte strings.
+abbrev pub KeepsBytes : Type 0
+KeepsBytes =
+    (mac enc : List ℕ → List ℕ) → ((s : List ℕ) → Bytes (mac s)) → ((s : List ℕ) → Bytes (enc s)) → (ads : List (List ℕ))
+    → ((p : List ℕ) → Bytes p → Bytes (seal mac enc ads p)) × ((z : List ℕ) → Bytes z → Bytes (plain enc z))
