@@ -14,6 +14,10 @@ pub and-true : (a b : Bool) → (a && b) ≡ true → (a ≡ true) × (b ≡ tru
 and-true true b h = (refl, h)
 and-true false b h = absurd (let z : _≡_ {A = ℕ} 0 1 = cc in omega arith)
 
+pub true-and : (a b : Bool) → a ≡ true → b ≡ true → (a && b) ≡ true
+true-and true b e f = f
+true-and false b e f = e
+
 pub same-self : (s : List ℕ) → same s s ≡ true
 unfolding same
 same-self [] = refl

@@ -6,3 +6,4 @@ pub mod Equality
 pub mod Words
 pub mod BigEndian
 pub mod Tables
+pub mod Rows

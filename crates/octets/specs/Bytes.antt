@@ -6,7 +6,7 @@ use mathlib.Core.List.{List, [], _∷_, _++_}
 use lib.Dec.{eqb}
 use lib.ListN.{length, take, drop, getD}
 
--- Each number of s is below m, which is not 0.
+-- Each number of s is below m; m is not 0, below which nothing is.
 pub record Below (m : ℕ) (s : List ℕ) : Type 0 where
   pub at : (i : ℕ) → getD s i 0 < m
 

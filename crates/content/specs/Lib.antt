@@ -1,0 +1,4 @@
+pub mod SivGcm
+pub mod Meaning
+pub mod Points
+pub mod Demands

@@ -1,0 +1,26 @@
+-- What an answer of the code means: each refusal has its row.
+-- Assumes nothing.
+use mathlib.Core.List.{[], _∷_}
+use Rattle.octets.specs.Rows.{Outcome, done, refused, refusedAt}
+use Rattle.content.specs.declared.answer.Refusal.{Refusal}
+use Rattle.content.specs.declared.answer.Refusal.the-variants.{KeyOrNonceSize, DirectoryId, NameSize, Length, Text, Range, Room, RepeatedNonce, Header, Chunk, HashName, SyntheticIv}
+use Rattle.content.specs.declared.answer.Answer.{Answer}
+use Rattle.content.specs.declared.answer.Answer.the-variants.{Done, Refused}
+
+abbrev pub row : Refusal → Outcome
+row KeyOrNonceSize = refused 1
+row DirectoryId = refused 2
+row NameSize = refused 3
+row Length = refused 4
+row Text = refused 5
+row Range = refused 6
+row Room = refused 7
+row RepeatedNonce = refused 8
+row Header = refused 9
+row (Chunk i) = refusedAt 10 i
+row HashName = refused 11
+row SyntheticIv = refused 12
+
+abbrev pub meaning : Answer → Outcome
+meaning (Done n) = done (n ∷ [])
+meaning (Refused r) = row r

@@ -1,0 +1,23 @@
+// What a call answers.
+
+/// Why a call was refused: the twelve rows, in order. `Chunk` has the number of the chunk.
+pub enum Refusal {
+    KeyOrNonceSize,
+    DirectoryId,
+    NameSize,
+    Length,
+    Text,
+    Range,
+    Room,
+    RepeatedNonce,
+    Header,
+    Chunk(u64),
+    HashName,
+    SyntheticIv,
+}
+
+/// Done, with the length written or asked for; or refused.
+pub enum Answer {
+    Done(usize),
+    Refused(Refusal),
+}

@@ -1,0 +1,12 @@
+pub mod Lengths
+pub mod Heads
+pub mod Pieces
+pub mod Filling
+pub mod Written
+pub mod Success
+pub mod Local
+pub mod Ranges
+pub mod Files
+pub mod Writer
+pub mod Answers
+pub mod Single

@@ -1,0 +1,179 @@
+-- A single header and a single chunk open exactly where they were written; and the calls on lengths.
+-- Assumes nothing.
+use mathlib.Core.Path.{_≡_, refl, sym, ap, _∙_, subst}
+use mathlib.Core.Bool.{Bool, true, false, not, _&&_}
+use mathlib.Core.Logic.{_↔_}
+use mathlib.Core.List.{List, [], _∷_}
+use Prim.Native.Nat.{ℕ, _+_, _-_, _≤_, _<_}
+use native.Mathlib.Omega.{arith}
+use lib.ListN.{length, take, getD}
+use lib.Seq.{length-take-le}
+use lib.Dec.{ltb, leb, eqb}
+use borrow.Author.Tests.{eqb-true, eq-eqb, leb-true, le-leb, ltb-false, le-ltb, lt-ltb, not-false}
+use Rattle.octets.specs.Bytes.{Bytes, filled}
+use Rattle.octets.specs.Rows.{Outcome, done, refused, refusedAt, NoRow, End, ended, Succeeded}
+use Rattle.octets.proofs.Bytes.{below-take}
+use Rattle.octets.proofs.Equality.{and-true, true-and}
+use Rattle.octets.proofs.Rows.{ends-exactly, first-answers, none-answers, done-none, none-ends}
+use Rattle.frame.specs.Layout.{Sizes, chunkSize, limit, stored, fileLength, clearLength, rightLength}
+use Rattle.frame.specs.Frame.{Head, HeadFits, Codec, keySize, headRight}
+use Rattle.frame.specs.Laws.{ChunkLaws, Laws}
+use Rattle.frame.specs.Single.{ChunkFits, fileLengthOf, clearLengthOf, writeHeaderRows, writeHeader, openHeaderRows, openHeader, writeChunkRows, writeChunk, openChunkRows, openChunk}
+use Rattle.frame.specs.SingleStatements.{LengthsExactly, LengthsInverse, SingleRowsExactly, HeaderWrittenOpens, HeaderOpensExactly, ChunkWrittenOpens, ChunkOpensExactly}
+use Rattle.frame.proofs.Heads.{right-fits, fits-right}
+use Rattle.frame.proofs.Lengths.{right-lengths}
+
+pub single-rows-exactly : (C : Codec) → SingleRowsExactly C
+unfolding writeHeaderRows openHeaderRows writeChunkRows openChunkRows writeHeader openHeader writeChunk openChunk
+single-rows-exactly C = (
+  λ h out. ends-exactly (writeHeaderRows C h (length out)) refl (C .sizes .header ∷ []) _ out,
+  λ b out. ends-exactly (openHeaderRows C b (length out)) refl (keySize ∷ []) _ out,
+  λ h i n p out. ends-exactly (writeChunkRows C h n p (length out)) refl ((length p + C .sizes .overhead) ∷ []) _ out,
+  λ h i c out. ends-exactly (openChunkRows C h i c (length out)) refl ((length c - C .sizes .overhead) ∷ []) _ out,
+)
+
+-- ---- lengths
+
+-- the first length of a success
+abbrev first : Outcome → ℕ
+first (done lengths) = getD lengths 0 0
+first (refused row) = 0
+first (refusedAt row at) = 0
+
+pub lengths-exactly : (z : Sizes) → LengthsExactly z
+unfolding fileLengthOf clearLengthOf
+lengths-exactly z = (
+  λ n h. none-answers ((ltb limit n, refused 4) ∷ []) (done (fileLength z n ∷ [])) (le-ltb limit n h, tt),
+  λ n h. first-answers ((ltb limit n, refused 4) ∷ []) (done (fileLength z n ∷ [])) 0 (lt-ltb limit n h),
+  λ l e. none-answers ((not (rightLength z l), refused 4) ∷ []) (done (clearLength z l ∷ [])) (ap not e, tt),
+  λ l e. first-answers ((not (rightLength z l), refused 4) ∷ []) (done (clearLength z l ∷ [])) 0 (ap not e),
+)
+
+pub lengths-inverse : (z : Sizes) → LengthsInverse z
+unfolding fileLengthOf clearLengthOf
+lengths-inverse z n l = (to, from)
+  where
+    to : fileLengthOf z n ≡ done (l ∷ []) → clearLengthOf z l ≡ done (n ∷ [])
+    to e =
+        let r = done-none ((ltb limit n, refused 4) ∷ []) (fileLength z n ∷ []) (l ∷ []) refl e in
+        let q : fileLength z n ≡ l = ap first (sym (none-answers ((ltb limit n, refused 4) ∷ []) (done (fileLength z n ∷ [])) r) ∙ e) in
+        let k = right-lengths z .1 n (ltb-false limit n (r .0)) in
+        none-answers ((not (rightLength z l), refused 4) ∷ []) (done (clearLength z l ∷ [])) (ap not (ap (rightLength z) (sym q) ∙ k .0), tt)
+        ∙ ap (λ (x : ℕ). done (x ∷ [])) (ap (clearLength z) (sym q) ∙ k .1)
+
+    from : clearLengthOf z l ≡ done (n ∷ []) → fileLengthOf z n ≡ done (l ∷ [])
+    from e =
+        let r = done-none ((not (rightLength z l), refused 4) ∷ []) (clearLength z l ∷ []) (n ∷ []) refl e in
+        let q : clearLength z l ≡ n = ap first (sym (none-answers ((not (rightLength z l), refused 4) ∷ []) (done (clearLength z l ∷ [])) r) ∙ e) in
+        let k = right-lengths z .0 l (not-false (rightLength z l) (r .0)) in
+        let h = k .1 in
+        none-answers ((ltb limit n, refused 4) ∷ []) (done (fileLength z n ∷ [])) (le-ltb limit n (omega arith), tt)
+        ∙ ap (λ (x : ℕ). done (x ∷ [])) (ap (fileLength z) (sym q) ∙ sym (k .0))
+
+-- ---- the header
+
+module _ (C : Codec) (𝓛 : Laws C) where
+  open Codec C using (sizes as z, keysRight, headerOf, headOf, headerGood)
+
+  header-opens : (h : Head) (out : List ℕ) → HeadFits z h → keySize ≤ length out → openHeader C (headerOf h) out ≡ ended (done (keySize ∷ [])) (filled (h .key) keySize out)
+  unfolding openHeader openHeaderRows
+  header-opens h out ok room =
+      let b = headerOf h in
+      let none : NoRow (openHeaderRows C b (length out)) = (
+        ap not (𝓛 .keys-right),
+        (ap not (eq-eqb (length b) (z .header) (𝓛 .header-size h ok)), (le-ltb (length out) keySize room, (ap not (𝓛 .header-good h ok), tt))),
+      ) in
+      none-ends (openHeaderRows C b (length out)) (keySize ∷ []) (filled (headOf b .key) keySize out) out none ∙ rw (𝓛 .header-says h ok)
+
+  pub header-opens-exactly : HeaderOpensExactly C
+  unfolding openHeader openHeaderRows
+  header-opens-exactly b out bytes room = ((was-written, λ c. (keySize ∷ [], ap (λ (e : End). e .outcome) (opens (c .0) (c .1) (c .2)))), opens)
+    where
+      opens : (h : Head) → HeadFits z h → headerOf h ≡ b → openHeader C b out ≡ ended (done (keySize ∷ [])) (filled (h .key) keySize out)
+      opens h ok e = ap (λ (x : List ℕ). openHeader C x out) (sym e) ∙ header-opens h out ok room
+
+      was-written : Succeeded (openHeader C b out) → (h : Head) × HeadFits z h × (headerOf h ≡ b)
+      was-written s =
+          let n = done-none (openHeaderRows C b (length out)) (keySize ∷ []) (s .0) refl (s .1) in
+          let size = eqb-true (length b) (z .header) (not-false _ (n .1 .0)) in
+          let good = not-false (headerGood b) (n .1 .1 .1 .0) in
+          (headOf b, 𝓛 .good-head b bytes size good, sym (𝓛 .good-header b bytes size good))
+
+  pub header-written-opens : HeaderWrittenOpens C
+  unfolding writeHeader writeHeaderRows
+  header-written-opens h out into bn bk n room =
+      let ok = right-fits z h bn bk (and-true keysRight (headRight z h) (not-false _ (n .0)) .1) in (
+        none-ends (writeHeaderRows C h (length out)) (z .header ∷ []) (filled (headerOf h) (z .header) out) out n
+            ∙ ap (λ (x : ℕ). ended (done (x ∷ [])) (filled (headerOf h) x out)) (sym (𝓛 .header-size h ok)),
+        header-opens h into ok room,
+      )
+
+-- ---- the chunk
+
+module _ (C : Codec) (𝓛 : ChunkLaws C) where
+  open Codec C using (sizes as z, chunkOf, good, plain)
+
+  chunk-opens : (h : Head) (i : ℕ) (n p out : List ℕ) → HeadFits z h → ChunkFits z n p → length p ≤ length out
+      → openChunk C h i (chunkOf h i n p) out ≡ ended (done (length p ∷ [])) (filled p (length p) out)
+  unfolding openChunk openChunkRows
+  chunk-opens h i n p out ok fits room =
+      let c = chunkOf h i n p in
+      let l = 𝓛 .chunk-size h i n p ok (fits .nonce-size) in
+      let m : length c - z .overhead ≡ length p = omega arith in
+      let low = fits .some in
+      let high = fits .clear-size in
+      let sized = true-and (leb (z .overhead + 1) (length c)) (leb (length c) (stored z)) (le-leb (z .overhead + 1) (length c) (omega arith)) (le-leb (length c) (stored z) (omega arith)) in
+      let none : NoRow (openChunkRows C h i c (length out)) = (
+        ap not (fits-right z h ok),
+        (ap not sized, (le-ltb (length out) (length c - z .overhead) (omega arith), (ap not (𝓛 .chunk-good h i n p ok (fits .nonce-size) (fits .nonce-bytes) (fits .clear-bytes)), tt))),
+      ) in
+      none-ends (openChunkRows C h i c (length out)) ((length c - z .overhead) ∷ []) (filled (plain h i c) (length c - z .overhead) out) out none
+      ∙ rw (m, 𝓛 .chunk-plain h i n p ok (fits .nonce-size) (fits .nonce-bytes) (fits .clear-bytes))
+
+  pub chunk-opens-exactly : ChunkOpensExactly C
+  unfolding openChunk openChunkRows
+  chunk-opens-exactly h i c out ok bytes room = ((was-written, λ w. (length (w .1) ∷ [], ap (λ (e : End). e .outcome) (opens (w .0) (w .1) (w .2) (w .3)))), opens)
+    where
+      opens : (n p : List ℕ) → ChunkFits z n p → chunkOf h i n p ≡ c → openChunk C h i c out ≡ ended (done (length p ∷ [])) (filled p (length p) out)
+      opens n p fits e =
+          let l : length c ≡ length p + z .overhead = ap length (sym e) ∙ 𝓛 .chunk-size h i n p ok (fits .nonce-size) in
+          ap (λ (x : List ℕ). openChunk C h i x out) (sym e) ∙ chunk-opens h i n p out ok fits (omega arith)
+
+      was-written : Succeeded (openChunk C h i c out) → (n : List ℕ) × (p : List ℕ) × ChunkFits z n p × (chunkOf h i n p ≡ c)
+      was-written s =
+          let r = done-none (openChunkRows C h i c (length out)) ((length c - z .overhead) ∷ []) (s .0) refl (s .1) in
+          let sized = and-true (leb (z .overhead + 1) (length c)) (leb (length c) (stored z)) (not-false _ (r .1 .0)) in
+          let low = leb-true (z .overhead + 1) (length c) (sized .0) in
+          let high = leb-true (length c) (stored z) (sized .1) in
+          let fit = 𝓛 .nonce-size in
+          let l = 𝓛 .plain-size h i c in (
+            take (z .nonce) c,
+            plain h i c,
+            record {
+              nonce-size = length-take-le (z .nonce) c (omega arith);
+              some = omega arith;
+              clear-size = omega arith;
+              nonce-bytes = below-take (z .nonce) bytes;
+              clear-bytes = 𝓛 .plain-bytes h i c ok bytes;
+            },
+            sym (𝓛 .good-chunk h i c ok bytes (omega arith) (not-false (good h i c) (r .1 .1 .1 .0))),
+          )
+
+  pub chunk-written-opens : ChunkWrittenOpens C
+  unfolding writeChunk writeChunkRows
+  chunk-written-opens h i n p out into bh bk bn bp r room =
+      let sizes = and-true (headRight z h) (eqb (length n) (z .nonce)) (not-false _ (r .0)) in
+      let sized = and-true (leb 1 (length p)) (leb (length p) chunkSize) (not-false _ (r .1 .0)) in
+      let ok = right-fits z h bh bk (sizes .0) in
+      let fits : ChunkFits z n p =
+      record {
+        nonce-size = eqb-true (length n) (z .nonce) (sizes .1);
+        some = leb-true 1 (length p) (sized .0);
+        clear-size = leb-true (length p) chunkSize (sized .1);
+        nonce-bytes = bn;
+        clear-bytes = bp;
+      } in (
+        none-ends (writeChunkRows C h n p (length out)) ((length p + z .overhead) ∷ []) (filled (chunkOf h i n p) (length p + z .overhead) out) out r
+            ∙ ap (λ (x : ℕ). ended (done (x ∷ [])) (filled (chunkOf h i n p) x out)) (sym (𝓛 .chunk-size h i n p ok (fits .nonce-size))),
+        chunk-opens h i n p into ok fits room,
+      )
