@@ -1,7 +1,7 @@
 -- The header and the chunk of the stock program's published tests, worked out from the definitions.
 -- Assumes nothing.
-use Prim.Native.Nat.{ℕ, zero, suc, _+_}
-use mathlib.Core.List.{List, [], _∷_, _++_}
+use Prim.Native.Nat.{ℕ}
+use mathlib.Core.List.{List}
 use mathlib.Core.Path.{_≡_, refl}
 use lib.ListN.{replicate}
 use Rattle.octets.specs.BigEndian.{intFrom, int, be}
@@ -14,7 +14,7 @@ use Rattle.aes_spec.specs.Cipher.{subBytes, shiftRows, mixColumns, addRoundKey,
 use Rattle.ctr.specs.Ctr.{inc32, keystream, ctr}
 use Rattle.gcm.specs.Field.{next, mulFrom, mul}
 use Rattle.gcm.specs.Gcm.{ghashFrom, ghash, pad, subkey, j0, crypt, hashed, tag, seal}
-use Rattle.frame.specs.Frame.{Head, Codec}
+use Rattle.frame.specs.Frame.{Head}
 use Rattle.content.specs.SivGcm.{sealed, headerOf, codec}
 
 abbrev zeros : List ℕ

@@ -1,8 +1,8 @@
--- Points of lengths and covering chunks.
+-- Points of lengths and covering chunks; those of names stand with the names.
 -- Assumes nothing.
-use Prim.Native.Nat.{ℕ, _/_}
+use Prim.Native.Nat.{_/_}
 use mathlib.Core.Path.{_≡_}
-use mathlib.Core.List.{List, [], _∷_, map}
+use mathlib.Core.List.{[], _∷_, map}
 use Rattle.octets.specs.Rows.{done, refused}
 use Rattle.frame.specs.Layout.{chunkSize, covering}
 use Rattle.frame.specs.Single.{fileLengthOf, clearLengthOf}

@@ -1,4 +1,5 @@
--- The vault's cipher combo SIV_GCM, format 8: headers and chunks.
+-- The vault's cipher combo SIV_GCM, format 8: headers and chunks, after the format's sections on the encryption of file headers
+-- and of file contents.
 -- Assumes nothing.
 use Prim.Native.Nat.{ℕ}
 use mathlib.Core.Bool.{Bool, _&&_}
@@ -20,18 +21,18 @@ sivGcm = record { header = 68; nonce = 12; overhead = 28 }
 unfoldable pub sealed : List ℕ → List ℕ → List ℕ → List ℕ → List ℕ
 sealed key a n p = n ++ gcm.seal (aes 8 key) n a p
 
--- The bytes b open under the nonce that they begin with; and to what.
+-- The tag of b is right under the nonce that b begins with; and the cleartext of b, whether or not it is.
 unfoldable pub opens : List ℕ → List ℕ → List ℕ → Bool
 opens key a b = gcm.good (aes 8 key) (take 12 b) a (drop 12 b)
 
 unfoldable pub opened : List ℕ → List ℕ → List ℕ
 opened key b = gcm.plain (aes 8 key) (take 12 b) (drop 12 b)
 
--- The eight bytes before the content key in a header.
+-- The eight bytes that are sealed before the content key in a header.
 abbrev pub reserved : List ℕ
 reserved = replicate 8 255
 
--- The associated data of chunk i: its number as 8 bytes, and the header's nonce.
+-- The associated data of chunk i: its number, below 2^64, as 8 bytes, the highest first, and the header's nonce.
 abbrev pub chunkData : Head → ℕ → List ℕ
 chunkData h i = be 8 i ++ h .nonce
 

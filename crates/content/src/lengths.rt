@@ -18,7 +18,7 @@ pub fn file_length(n: usize) -> Answer
     Answer::Done(68 + n + 28 * chunks(n))
 }
 
-/// The length of the cleartext of a file of l bytes, whether or not a file can have that length.
+/// What the length rule gives for l: the cleartext's length where `right_length` holds. `cleartext_length` is for callers.
 pub fn clear_length(l: usize) -> usize
     ensures { λ r. ⌜ r ≡ clearLength sivGcm l ⌝ }
 {

@@ -2,15 +2,15 @@
 -- Assumes nothing.
 use mathlib.Core.Path.{_≡_, refl, sym, ap, _∙_, subst}
 use mathlib.Core.Bool.{Bool, true, false, cond}
-use mathlib.Core.Logic.{_⊎_, inl, inr, ⊎-elim}
-use mathlib.Core.List.{List, [], _∷_, _++_, append-assoc, append-nil}
+use mathlib.Core.Logic.{_⊎_, ⊎-elim}
+use mathlib.Core.List.{List, _++_, append-nil}
 use Prim.Native.Nat.{ℕ, zero, suc, _+_, _-_, _*_, _/_, _%_, _≤_, _<_, min}
-use native.Mathlib.Nat.{zero-lt-suc, zero-add, add-zero, suc-add, le-of-eq, not-suc-le-zero, mul-zero, mul-suc, mul-le-mul-left, add-comm, min-eq-left}
+use native.Mathlib.Nat.{zero-lt-suc, zero-add, add-zero, suc-add, le-of-eq, not-suc-le-zero, mul-zero, mul-suc, mul-le-mul-left, add-comm}
 use native.Mathlib.Omega.{arith}
 use lib.ListN.{length, take, drop, getD, take-append-drop, drop-of-length-le, length-append, length-take, length-drop}
 use lib.Seq.{ext-getD, getD-take, getD-drop, length-take-le, take-all, take-at, drop-drop, drop-append-add}
 use Rattle.octets.specs.Bytes.{Bytes}
-use Rattle.frame.specs.Layout.{Sizes, chunkSize, chunks, covering, stored, fileLength, clearLength, headerAt, chunkAt, lowestBad, parts, allParts}
+use Rattle.frame.specs.Layout.{Sizes, chunkSize, chunks, covering, stored, fileLength, clearLength, chunkAt, lowestBad, parts, allParts}
 use Rattle.frame.proofs.Lengths.{stored-mul, clear-file}
 use Rattle.octets.proofs.Lists.{le-or-lt}
 use Rattle.octets.proofs.Bytes.{below-nil, below-take, below-drop, below-append}

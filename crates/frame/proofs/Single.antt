@@ -1,16 +1,15 @@
 -- A single header and a single chunk open exactly where they were written; and the calls on lengths.
 -- Assumes nothing.
-use mathlib.Core.Path.{_≡_, refl, sym, ap, _∙_, subst}
-use mathlib.Core.Bool.{Bool, true, false, not, _&&_}
-use mathlib.Core.Logic.{_↔_}
+use mathlib.Core.Path.{_≡_, refl, sym, ap, _∙_}
+use mathlib.Core.Bool.{not}
 use mathlib.Core.List.{List, [], _∷_}
-use Prim.Native.Nat.{ℕ, _+_, _-_, _≤_, _<_}
+use Prim.Native.Nat.{ℕ, _+_, _-_, _≤_}
 use native.Mathlib.Omega.{arith}
 use lib.ListN.{length, take, getD}
 use lib.Seq.{length-take-le}
 use lib.Dec.{ltb, leb, eqb}
 use borrow.Author.Tests.{eqb-true, eq-eqb, leb-true, le-leb, ltb-false, le-ltb, lt-ltb, not-false}
-use Rattle.octets.specs.Bytes.{Bytes, filled}
+use Rattle.octets.specs.Bytes.{filled}
 use Rattle.octets.specs.Rows.{Outcome, done, refused, refusedAt, NoRow, End, ended, Succeeded}
 use Rattle.octets.proofs.Bytes.{below-take}
 use Rattle.octets.proofs.Equality.{and-true, true-and}

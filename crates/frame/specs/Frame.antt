@@ -1,4 +1,4 @@
--- The vault file over any header and chunk cipher: the writing rules, and what the file opener and the range read end in.
+-- The vault file over any header and chunk cipher: the writing rules, and what the file writer, the file opener and the range read end in.
 -- Assumes nothing.
 use mathlib.Core.Path.{_≡_}
 use mathlib.Core.Bool.{Bool, not, _&&_}
@@ -100,7 +100,7 @@ module _ (C : Codec) where
   readRange f from count out =
       ending (answer (rangeRows f from count (length out)) (done (count ∷ []))) (filled (drop from (clearOf f)) count out) out
 
-  -- the rows of the file opener, as those of the range read of the whole cleartext, which is always inside
+  -- the rows of the file opener, as those of the range read of the whole cleartext, to which row 6 never applies
   unfoldable pub openRows : List ℕ → ℕ → List Row
   openRows f room =
       (not keysRight, refused 1)

@@ -13,7 +13,7 @@ module _ (C : Codec) where
   open Codec C using (sizes, keysRight, headerOf, chunkOf, headOf, headerGood, good, plain)
   open Sizes sizes using (header, nonce, overhead)
 
-  -- The cleartext of any chunk is as long as the chunk without its overhead. This holds under any master keys.
+  -- The cleartext of any chunk is as long as the chunk without its overhead. Asked under any master keys.
   abbrev pub PlainSize : Type 0
   PlainSize = (h : Head) (i : ℕ) (c : List ℕ) → length (plain h i c) ≡ length c - overhead
 

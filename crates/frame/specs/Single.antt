@@ -1,6 +1,6 @@
 -- The calls on a single header and a single chunk, and on lengths alone.
 -- Assumes nothing.
-use mathlib.Core.Bool.{Bool, not, _&&_}
+use mathlib.Core.Bool.{not, _&&_}
 use mathlib.Core.List.{List, [], _∷_}
 use mathlib.Core.Path.{_≡_}
 use Prim.Native.Nat.{ℕ, _+_, _-_, _≤_}
@@ -19,11 +19,11 @@ pub record ChunkFits (z : Sizes) (n p : List ℕ) : Type 0 where
   pub nonce-bytes : Bytes n
   pub clear-bytes : Bytes p
 
--- The length of the file of a cleartext of n bytes.
+-- The length of the file of a cleartext of n bytes, within the limit (row 4).
 unfoldable pub fileLengthOf : Sizes → ℕ → Outcome
 fileLengthOf z n = answer ((ltb limit n, refused 4) ∷ []) (done (fileLength z n ∷ []))
 
--- The length of the cleartext of a file of l bytes.
+-- The length of the cleartext of a file of l bytes, where a file can have that length (row 4).
 unfoldable pub clearLengthOf : Sizes → ℕ → Outcome
 clearLengthOf z l = answer ((not (rightLength z l), refused 4) ∷ []) (done (clearLength z l ∷ []))
 
@@ -31,7 +31,7 @@ module _ (C : Codec) where
   open Codec C using (sizes as z, keysRight, headerOf, chunkOf, headOf, headerGood, good, plain)
   open Sizes z using (header, nonce, overhead)
 
-  -- writing the header of a nonce and a content key
+  -- writing the header of a nonce and a content key: the size of a key or the nonce (1), the buffer too short (7)
   unfoldable pub writeHeaderRows : Head → ℕ → List Row
   writeHeaderRows h room =
       (not (keysRight && headRight z h), refused 1)
@@ -41,7 +41,8 @@ module _ (C : Codec) where
   unfoldable pub writeHeader : Head → List ℕ → End
   writeHeader h out = ending (answer (writeHeaderRows h (length out)) (done (header ∷ []))) (filled (headerOf h) header out) out
 
-  -- opening the header b: its content key goes out
+  -- opening the header b, of which the content key goes out: a master key's size (1), the header's (4), the buffer too short (7), the header not
+  -- good (9)
   unfoldable pub openHeaderRows : List ℕ → ℕ → List Row
   openHeaderRows b room =
       (not keysRight, refused 1)
@@ -54,7 +55,7 @@ module _ (C : Codec) where
   openHeader b out = ending (answer (openHeaderRows b (length out)) (done (keySize ∷ []))) (filled (headOf b .key) keySize out) out
 
   -- writing chunk i of the nonce n and the cleartext p: the calls on a chunk are lent the header's nonce and the content key, and no master key,
-  -- so row 1 goes by those two and the chunk's nonce
+  -- so row 1 goes by those two and the chunk's nonce; no cleartext or more than a chunk holds (4), the buffer too short (7)
   unfoldable pub writeChunkRows : Head → List ℕ → List ℕ → ℕ → List Row
   writeChunkRows h n p room =
       (not (headRight z h && eqb (length n) nonce), refused 1)
@@ -66,7 +67,7 @@ module _ (C : Codec) where
   writeChunk h i n p out =
       ending (answer (writeChunkRows h n p (length out)) (done ((length p + overhead) ∷ []))) (filled (chunkOf h i n p) (length p + overhead) out) out
 
-  -- opening the bytes c as chunk i
+  -- opening the bytes c as chunk i: the size of the key or the nonce (1), of the chunk (4), the buffer too short (7), the tag wrong (10)
   unfoldable pub openChunkRows : Head → ℕ → List ℕ → ℕ → List Row
   openChunkRows h i c room =
       (not (headRight z h), refused 1)

@@ -17,7 +17,7 @@ RightLengths z =
     ((l : ℕ) → rightLength z l ≡ true → (l ≡ fileLength z (clearLength z l)) × (clearLength z l ≤ limit))
     × ((n : ℕ) → n ≤ limit → (rightLength z (fileLength z n) ≡ true) × (clearLength z (fileLength z n) ≡ n))
 
--- Row 7 does not apply to the file opener: its answer, where it has one by the file's length, fits the buffer.
+-- Row 7 is not what the file opener gives: its answer, where it has one by the file's length, fits the buffer.
 abbrev pub Room : Sizes → List ℕ → List ℕ → Type 0
 Room z f out = rightLength z (length f) ≡ true → clearLength z (length f) ≤ length out
 
