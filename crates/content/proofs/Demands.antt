@@ -8,9 +8,9 @@ use Rattle.frame.proofs.Success.{rows-exactly, opening-is-reading}
 use Rattle.frame.proofs.Local.{range-is-local}
 use Rattle.frame.proofs.Files.{reads-exactly}
 use Rattle.frame.proofs.Writer.{written-opens, file-bytes}
-use Rattle.content.specs.SivGcm.{sivGcm, codec}
+use Rattle.siv_gcm.specs.SivGcm.{sivGcm, codec}
 use Rattle.content.specs.Demands.{MasterKeys, DemandOne, DemandTwo, DemandThree}
-use Rattle.content.proofs.Instance.{chunk-laws, laws}
+use Rattle.siv_gcm.proofs.Instance.{chunk-laws, laws}
 
 under : (enc mac : List ℕ) → MasterKeys enc mac → Laws (codec enc mac)
 under enc mac k = laws enc mac (k .enc-size) (k .mac-size) (k .enc-bytes)

@@ -8,7 +8,7 @@ use Rattle.octets.specs.Bytes.{Bytes}
 use Rattle.frame.specs.Frame.{keySize}
 use Rattle.frame.specs.Statements.{RowsExactly, OpeningIsReading, FileBytes, WrittenOpens, RangeIsLocal, ReadsExactly}
 use Rattle.frame.specs.SingleStatements.{LengthsExactly, LengthsInverse, SingleRowsExactly, HeaderWrittenOpens, HeaderOpensExactly, ChunkWrittenOpens, ChunkOpensExactly}
-use Rattle.content.specs.SivGcm.{sivGcm, codec}
+use Rattle.siv_gcm.specs.SivGcm.{sivGcm, codec}
 
 -- Two master keys of 32 bytes.
 pub record MasterKeys (enc mac : List ℕ) : Type 0 where

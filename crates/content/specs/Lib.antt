@@ -1,4 +1,2 @@
-pub mod SivGcm
-pub mod Meaning
 pub mod Points
 pub mod Demands

@@ -6,7 +6,7 @@ use mathlib.Core.List.{[], _∷_, map}
 use Rattle.octets.specs.Rows.{done, refused}
 use Rattle.frame.specs.Layout.{chunkSize, covering}
 use Rattle.frame.specs.Single.{fileLengthOf, clearLengthOf}
-use Rattle.content.specs.SivGcm.{sivGcm}
+use Rattle.siv_gcm.specs.SivGcm.{sivGcm}
 
 -- The range (32,767, 2) is covered by two chunks from chunk 0 on, and (32,768, 1) by one from chunk 1 on. The last refused
 -- length would be that of one byte over the limit.

@@ -2,10 +2,10 @@
 ghost use mathlib.Core.Path.{_≡_};
 ghost use Rattle.frame.specs.Layout.{clearLength, rightLength};
 ghost use Rattle.frame.specs.Single.{fileLengthOf, clearLengthOf};
-ghost use Rattle.content.specs.SivGcm.{sivGcm};
-ghost use Rattle.content.specs.Meaning.{meaning};
-use crate::answer::Answer;
-use crate::answer::Refusal;
+ghost use Rattle.siv_gcm.specs.SivGcm.{sivGcm};
+ghost use Rattle.answer.specs.Meaning.{meaning};
+use answer::Answer;
+use answer::Refusal;
 use frame::chunks;
 
 /// The length of the file of a cleartext of n bytes.

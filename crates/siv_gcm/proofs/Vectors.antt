@@ -15,7 +15,7 @@ use Rattle.ctr.specs.Ctr.{inc32, keystream, ctr}
 use Rattle.gcm.specs.Field.{next, mulFrom, mul}
 use Rattle.gcm.specs.Gcm.{ghashFrom, ghash, pad, subkey, j0, crypt, hashed, tag, seal}
 use Rattle.frame.specs.Frame.{Head}
-use Rattle.content.specs.SivGcm.{sealed, headerOf, codec}
+use Rattle.siv_gcm.specs.SivGcm.{sealed, chunkData, headerOf, codec}
 
 abbrev zeros : List ℕ
 zeros = replicate 32 0
@@ -31,5 +31,5 @@ stock-header = refl
 -- the cleartext is "hello world"
 stock-chunk : codec zeros zeros .chunkOf zeroHead 0 (replicate 12 0) (be 11 0x68656c6c6f20776f726c64)
     ≡ be 39 0xa6c22c5122401c017522a1bae8f02a12f71ea05222023e7bdfa5ea
-unfolding f.xtimes f.mulBits f.mul sbox words wordBytes subWord rotWord powerOfX rcon temp expansion keyExpansion xors subBytes shiftRows mixColumns addRoundKey afterRounds cipher aes intFrom int be next mulFrom mul inc32 ghashFrom ghash pad keystream ctr subkey j0 crypt hashed tag seal sealed
+unfolding f.xtimes f.mulBits f.mul sbox words wordBytes subWord rotWord powerOfX rcon temp expansion keyExpansion xors subBytes shiftRows mixColumns addRoundKey afterRounds cipher aes intFrom int be next mulFrom mul inc32 ghashFrom ghash pad keystream ctr subkey j0 crypt hashed tag seal sealed chunkData
 stock-chunk = refl

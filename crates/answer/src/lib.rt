@@ -1,4 +1,4 @@
-// What a call answers.
+// What the calls on a vault answer.
 
 /// Why a call was refused: the twelve rows, in order. `Chunk` has the number of the chunk.
 pub enum Refusal {

@@ -2,10 +2,10 @@
 -- Assumes nothing.
 use mathlib.Core.List.{[], _∷_}
 use Rattle.octets.specs.Rows.{Outcome, done, refused, refusedAt}
-use Rattle.content.specs.declared.answer.Refusal.{Refusal}
-use Rattle.content.specs.declared.answer.Refusal.the-variants.{KeyOrNonceSize, DirectoryId, NameSize, Length, Text, Range, Room, RepeatedNonce, Header, Chunk, HashName, SyntheticIv}
-use Rattle.content.specs.declared.answer.Answer.{Answer}
-use Rattle.content.specs.declared.answer.Answer.the-variants.{Done, Refused}
+use Rattle.answer.specs.declared.Refusal.{Refusal}
+use Rattle.answer.specs.declared.Refusal.the-variants.{KeyOrNonceSize, DirectoryId, NameSize, Length, Text, Range, Room, RepeatedNonce, Header, Chunk, HashName, SyntheticIv}
+use Rattle.answer.specs.declared.Answer.{Answer}
+use Rattle.answer.specs.declared.Answer.the-variants.{Done, Refused}
 
 abbrev pub row : Refusal → Outcome
 row KeyOrNonceSize = refused 1

@@ -1,0 +1,1 @@
+// The cipher combo SIV_GCM: headers and chunks as they are stored.
