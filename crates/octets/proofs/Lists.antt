@@ -1,7 +1,7 @@
 -- Laws of lists that the kit lacks.
 -- Assumes nothing.
 use Prim.Native.Nat.{ℕ, zero, suc, _+_, _-_, _≤_, _<_}
-use mathlib.Core.Path.{_≡_, refl, sym, ap, _∙_}
+use mathlib.Core.Path.{_≡_, refl, sym, ap, ap₂, _∙_}
 use mathlib.Core.List.{List, [], _∷_, _++_, map, append-nil, append-assoc}
 use mathlib.Core.Logic.{_⊎_, inl, inr}
 use native.Mathlib.Nat.{not-suc-le-zero, le-of-suc-le-suc, add-zero}
@@ -77,6 +77,19 @@ pub placed-all : (s d : List ℕ) → length d ≡ length s → placed s 0 d ≡
 placed-all s d h = ap (λ (l : List ℕ). s ++ l) (drop-all (0 + length s) d (omega arith)) ∙ append-nil s
 
 -- What is written, and what stands before it.
+-- v at the front of a buffer xs, and then c written to the part of it behind v.
+pub placed-rest : (v c d xs : List ℕ) (n : ℕ) → xs ≡ placed v 0 d → length v ≡ n → take n xs ++ (c ++ drop (length xs - n) (drop n xs)) ≡ v ++ c
+placed-rest v c d xs n e l =
+    let p : take n xs ≡ v = ap (take n) e ∙ take-at v (drop (0 + length v) d) n l in
+    let q : drop (length xs - n) (drop n xs) ≡ [] = drop-all (length xs - n) (drop n xs) (rw length-drop (omega arith)) in
+    ap₂ (λ (x y : List ℕ). x ++ (c ++ y)) p q ∙ ap (λ (x : List ℕ). v ++ x) (append-nil c)
+
+-- y at the front of a buffer, and t written behind it to the buffer's end.
+pub placed-behind : (y t d : List ℕ) (n : ℕ) → length y ≡ n → length d ≡ n + length t → placed t n (y ++ drop n d) ≡ y ++ t
+placed-behind y t d n h k =
+    let l : length (y ++ drop n d) ≤ n + length t = rw (length-append, length-drop) (omega arith) in
+    rw (take-at y (drop n d) n h, drop-all (n + length t) (y ++ drop n d) l, append-nil)
+
 pub take-placed : (s d : List ℕ) (at : ℕ) → at ≤ length d → take (at + length s) (placed s at d) ≡ take at d ++ s
 take-placed s d at h = take-at (take at d ++ s) (drop (at + length s) d) (at + length s) (simp (length-append, length-take-le at d h))
 

@@ -36,13 +36,17 @@ reserved = replicate 8 255
 unfoldable pub chunkData : List ℕ → ℕ → List ℕ
 chunkData n i = be 8 i ++ n
 
+-- What the header of a nonce and a content key says.
+abbrev pub headWith : List ℕ → List ℕ → Head
+headWith n k = record { nonce = n; key = k }
+
 -- Headers are under AES-256 with the encryption master key, and have no associated data.
 module _ (enc : List ℕ) where
   unfoldable pub headerOf : Head → List ℕ
   headerOf h = sealed (aes 8 enc) [] (h .nonce) (reserved ++ h .key)
 
   unfoldable pub headOf : List ℕ → Head
-  headOf b = record { nonce = take 12 b; key = drop 8 (opened (aes 8 enc) b) }
+  headOf b = headWith (take 12 b) (drop 8 (opened (aes 8 enc) b))
 
   unfoldable pub headerGood : List ℕ → Bool
   headerGood b = opens (aes 8 enc) [] b && same (take 8 (opened (aes 8 enc) b)) reserved

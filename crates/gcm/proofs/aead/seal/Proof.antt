@@ -1,27 +1,20 @@
 -- `seal`: the ciphertext goes to the front of out, and its tag after it.
 -- Assumes nothing.
-use Prim.Native.Nat.{ℕ, _+_, _-_, _^_, _≤_, _<_}
+use Prim.Native.Nat.{ℕ}
 use mathlib.Core.Path.{_≡_, sym, _∙_, ap, ap₂}
-use mathlib.Core.List.{List, _++_, append-nil}
+use mathlib.Core.List.{List, _++_}
 use borrow.Author.Needs.{needs}
 use native.Mathlib.Omega.{arith}
-use lib.ListN.{length, take, drop, length-append, length-drop}
+use lib.ListN.{length, take, drop}
 use lib.Seq.{length-take-le, take-all, take-at}
-use Rattle.octets.specs.Bytes.{placed}
 use Rattle.octets.specs.Words.{wordBytes}
-use Rattle.octets.proofs.Lists.{drop-all}
+use Rattle.octets.proofs.Lists.{placed-behind}
 use Rattle.aes_spec.specs.Cipher.{cipher}
 use Rattle.aes.proofs.Ciphers.{length-cipher}
 use Rattle.gcm.specs.Gcm as spec
 use Rattle.gcm.proofs.Laws.{length-crypt}
 use Rattle.gcm.proofs.aead.seal.Statement.{statement}
 use Rattle.gcm.proofs.aead.seal.Tie as tie
-
--- y at the front of a buffer, and t after it to its end.
-joined : (y t d : List ℕ) (n : ℕ) → length y ≡ n → length d ≡ n + length t → placed t n (y ++ drop n d) ≡ y ++ t
-joined y t d n h k =
-    let l : length (y ++ drop n d) ≤ n + length t = rw (length-append, length-drop) (omega arith) in
-    rw (take-at y (drop n d) n h, drop-all (n + length t) (y ++ drop n d) l, append-nil)
 
 -- What `crypt` leaves in its part.
 text : (c : tie.After-crypt) → c .crypt .last .1 .1 .1 .1 .1 .0
@@ -99,7 +92,7 @@ returns c =
     let m : length t ≡ 16 = ap length (b .to-bytes .ensures) in
     let e = spec.tag (cipher 14 (x .w .now)) (x .nonce .now) (x .aad .now) in
     c .before .before .copy-at .ensures
-    ∙ joined y t (x .out .now) (length (x .cleartext .now)) (text-length k) (omega (arith, k .before .before .before .before .before .before .before .pre .1 .1 .1))
+    ∙ placed-behind y t (x .out .now) (length (x .cleartext .now)) (text-length k) (omega (arith, k .before .before .before .before .before .before .before .pre .1 .1 .1))
     ∙ ap₂ (λ (u v : List ℕ). u ++ v) (text k) (b .to-bytes .ensures ∙ b .before .tag .ensures ∙ ap e (front k ∙ text k))
 
 pub seal-spec : {M : Type 1} → statement M
