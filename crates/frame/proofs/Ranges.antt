@@ -14,7 +14,7 @@ use Rattle.frame.specs.Laws.{Laws}
 use Rattle.frame.specs.Statements.{RangeExactly, RangeGives}
 use Rattle.frame.proofs.Lengths.{right, file-clear, right-lengths}
 use Rattle.octets.proofs.Bytes.{below-take}
-use Rattle.frame.proofs.Pieces.{covers-count, covers-some, chunk-length, bytes-chunk, all-good, none-bad, bytes-parts, length-clear, clear-piece, nonceOf, length-nonces, nonce-piece}
+use Rattle.frame.proofs.Pieces.{covers-count, covers-some, chunk-length, bytes-chunk, all-good, below-good, bytes-parts, length-clear, clear-piece, nonceOf, length-nonces, nonce-piece}
 use Rattle.frame.proofs.Written as written
 use Rattle.frame.proofs.Success.{Reads, succeeded, succeeds}
 use Rattle.frame.proofs.Local.{range-is-local}
@@ -108,7 +108,7 @@ module _ (C : Codec) (𝓛 : Laws C) where
               let u : i < from / chunkSize + covering from count = covers-count from count i (v .some) (v .low) (v .high) in
               let k = covers-some long from count i (o .inside .within) (v .low) u in
               𝓛 .chunk-laws .good-chunk (headIn C f) i (chunkAt z f i) choice-head (bytes-chunk z f i bytes) (let e = chunk-length z f long i s k in omega arith)
-              (none-bad z (good (headIn C f)) f (from / chunkSize) (covering from count) (o .tagged) i (v .low) u)
+              (below-good z (good (headIn C f)) f (from / chunkSize) (covering from count) i (v .low) (let t = o .tagged in omega (arith, t, u)))
               ∙ sym (choice-chunk i k);
         }
 

@@ -18,7 +18,7 @@ use Rattle.frame.specs.Layout.{Sizes, chunkSize, limit, stored, fileLeng
 use Rattle.frame.specs.Frame.{Head, HeadFits, Codec, keySize, headRight}
 use Rattle.frame.specs.Laws.{ChunkLaws, Laws}
 use Rattle.frame.specs.Single.{ChunkFits, fileLengthOf, clearLengthOf, writeHeaderRows, writeHeader, openHeaderRows, openHeader, writeChunkRows, writeChunk, openChunkRows, openChunk}
-use Rattle.frame.specs.SingleStatements.{LengthsExactly, LengthsInverse, SingleRowsExactly, HeaderWrittenOpens, HeaderOpensExactly, ChunkWrittenOpens, ChunkOpensExactly}
+use Rattle.frame.specs.SingleStatements.{LengthsExactly, LengthsInverse, SingleRowsExactly, SingleBytes, HeaderWrittenOpens, HeaderOpensExactly, ChunkWrittenOpens, ChunkOpensExactly}
 use Rattle.frame.proofs.Heads.{right-fits, fits-right}
 use Rattle.frame.proofs.Lengths.{right-lengths}
 
@@ -30,6 +30,9 @@ single-rows-exactly C = (
   λ h i n p out. ends-exactly (writeChunkRows C h n p (length out)) refl ((length p + C .sizes .overhead) ∷ []) _ out,
   λ h i c out. ends-exactly (openChunkRows C h i c (length out)) refl ((length c - C .sizes .overhead) ∷ []) _ out,
 )
+
+pub single-bytes : (C : Codec) → Laws C → SingleBytes C
+single-bytes C 𝓛 = (𝓛 .header-bytes, 𝓛 .chunk-laws .chunk-bytes)
 
 -- ---- lengths
 

@@ -37,6 +37,12 @@ module _ (C : Codec) where
       × ((h : Head) (i : ℕ) (c out : List ℕ)
       → EndsExactly (openChunkRows C h i c (length out)) ((length c - z .overhead) ∷ []) (filled (plain h i c) (length c - z .overhead) out) out (openChunk C h i c out))
 
+  -- A header of byte strings is one, and so is a chunk.
+  abbrev pub SingleBytes : Type 0
+  SingleBytes =
+      ((h : Head) → HeadFits z h → Bytes (headerOf h))
+      × ((h : Head) (i : ℕ) (n p : List ℕ) → HeadFits z h → Bytes n → Bytes p → Bytes (chunkOf h i n p))
+
   -- Where no row applies the header writer writes the header, which opens to the content key that went in.
   abbrev pub HeaderWrittenOpens : Type 0
   HeaderWrittenOpens =

@@ -1,15 +1,15 @@
 -- What the theorems say, over any cipher combo.
 -- Assumes nothing.
 use mathlib.Core.Path.{_≡_}
-use mathlib.Core.Bool.{true}
+use mathlib.Core.Bool.{true, false}
 use mathlib.Core.Logic.{_↔_}
 use mathlib.Core.List.{List, [], _∷_}
 use Prim.Native.Nat.{ℕ, _≤_}
 use lib.ListN.{length, drop}
 use Rattle.octets.specs.Bytes.{Bytes, filled}
-use Rattle.octets.specs.Rows.{done, NoRow, EndsExactly, ended, Succeeded}
-use Rattle.frame.specs.Layout.{Sizes, limit, fileLength, clearLength, rightLength, Inside, Alike}
-use Rattle.frame.specs.Frame.{Codec, Choice, ByteStrings, Fits, fileOf, clearOf, rangeRows, readRange, openRows, openFile, writeRows, writeFile}
+use Rattle.octets.specs.Rows.{done, refusedAt, NoRow, EndsExactly, ended, Succeeded}
+use Rattle.frame.specs.Layout.{Sizes, limit, fileLength, clearLength, rightLength, chunkAt, Inside, Covers, Alike}
+use Rattle.frame.specs.Frame.{Codec, Choice, ByteStrings, Fits, fileOf, headIn, clearOf, rangeRows, readRange, openRows, openFile, writeRows, writeFile}
 
 -- A right length is that of the file of its cleartext, which is within the limit; and the file of any cleartext within the limit has a right length.
 abbrev pub RightLengths : Sizes → Type 0
@@ -22,7 +22,7 @@ abbrev pub Room : Sizes → List ℕ → List ℕ → Type 0
 Room z f out = rightLength z (length f) ≡ true → clearLength z (length f) ≤ length out
 
 module _ (C : Codec) where
-  open Codec C using (sizes as z)
+  open Codec C using (sizes as z, good)
 
   -- Each row is given exactly where it applies and none before it does, and leaves the buffer as it was.
   abbrev pub RowsExactly : Type 0
@@ -33,6 +33,17 @@ module _ (C : Codec) where
       → EndsExactly (openRows C f (length out)) (clearLength z (length f) ∷ []) (filled (clearOf C f) (clearLength z (length f)) out) out (openFile C f out))
       × ((c : Choice) (out : List ℕ)
       → EndsExactly (writeRows C c (length out)) (fileLength z (length (c .clear)) ∷ []) (filled (fileOf C c) (fileLength z (length (c .clear))) out) out (writeFile C c out))
+
+  -- Chunk i covers the range, and its tag is wrong.
+  abbrev pub Bad : List ℕ → ℕ → ℕ → ℕ → Type 0
+  Bad f from count i = Covers z (length f) from count i × (good (headIn C f) i (chunkAt z f i) ≡ false)
+
+  -- The number that row 10 returns is that of the lowest bad chunk; and a range with a bad chunk is not read.
+  abbrev pub RowTen : Type 0
+  RowTen =
+      (f : List ℕ) (from count i : ℕ) (out : List ℕ)
+      → (readRange C f from count out .outcome ≡ refusedAt 10 i → Bad f from count i × ((j : ℕ) → Bad f from count j → i ≤ j))
+      × (Bad f from count i → Succeeded (readRange C f from count out) → ⊥)
 
   -- The file of byte strings is one.
   abbrev pub FileBytes : Type 0
