@@ -1,0 +1,3 @@
+// The file writer.
+mod chunks;
+mod nonces;
