@@ -1,0 +1,162 @@
+-- `write_file`: the rows in order, and the file at the front of the buffer.
+-- Assumes nothing.
+use Prim.Native.Nat.{ℕ, _+_, _*_, _/_}
+use mathlib.Core.Path.{_≡_, refl, sym, ap, _∙_}
+use mathlib.Core.Bool.{true, false, _&&_}
+use mathlib.Core.List.{List, [], _∷_, _++_}
+use native.Mathlib.Omega.{arith}
+use lib.ListN.{length, take, drop}
+use lib.Seq.{length-take-le}
+use lib.Dec.{eqb}
+use borrow.Author.Tests.{not-true, not-false}
+use Rattle.octets.specs.Rows.{done, ended}
+use Rattle.frame.specs.Layout.{chunks, repeats, fileLength}
+use Rattle.frame.specs.Frame.{Codec, Choice, headRight}
+use Rattle.siv_gcm.specs.SivGcm.{sivGcm, headWith, masterKeysRight, codec}
+use Rattle.file_write.specs.Choices.{choice}
+use Rattle.file_write.proofs.Ends.{row-1, row-4, row-7, row-8, no-row, sizes-facts, front-length}
+use borrow.Author.Needs.{needs}
+use Rattle.file_write.proofs.write_file.Statement.{statement}
+use Rattle.file_write.proofs.write_file.Tie as tie
+use Rattle.file_write.proofs.write_file.Reads as reads
+use Rattle.file_write.proofs.write_file.Lts as lts
+use Rattle.file_write.proofs.nonces.repeats.Reads as repeats-reads
+use Rattle.file_write.proofs.seal_file.Reads as seal-file-reads
+use Rattle.file_write.proofs.sizes_right.Reads as sizes-right-reads
+use Rattle.frame.proofs.chunks.Reads as chunks-reads
+
+abbrev combo : tie.Start → Codec
+combo b = codec (b .args .enc .now) (b .args .mac .now)
+
+abbrev chosen : tie.Start → Choice
+chosen b = choice (b .args .header-nonce .now) (b .args .key .now) (b .args .nonces .now) (b .args .cleartext .now)
+
+-- row 1 does not apply
+sizes : (c : tie.Else1) →
+    let x = c .before .before .before .before .before .before .before .before .before .args in
+    (masterKeysRight (x .enc .now) (x .mac .now) && (headRight sivGcm (headWith (x .header-nonce .now) (x .key .now)) && eqb (length (x .nonces .now)) (12 * chunks (length (x .cleartext .now)))))
+    ≡ true
+sizes c = sym (c .before .sizes-right .ensures) ∙ not-false _ (c .if1 .left)
+
+facts : (c : tie.Else1) →
+    let x = c .before .before .before .before .before .before .before .before .before .args in
+    (length (x .enc .now) ≡ 32) × (length (x .header-nonce .now) ≡ 12) × (length (x .key .now) ≡ 32) × (length (x .nonces .now) ≡ 12 * chunks (length (x .cleartext .now)))
+facts c =
+    let x = c .before .before .before .before .before .before .before .before .before .args in
+    sizes-facts (x .enc .now) (x .mac .now) (x .header-nonce .now) (x .key .now) (x .nonces .now) (length (x .cleartext .now)) (sizes c)
+
+-- the test for row 8
+again : (c : tie.After-repeats) →
+    let x = c .before .before .before .before .before .before .before .before .before .before .before .before .before .args in
+    repeats 12 (chunks (length (x .cleartext .now))) (x .nonces .now) ≡ c .repeats .result
+again c =
+    let x = c .before .before .before .before .before .before .before .before .before .before .before .before .before .args in
+    let l = facts (c .before .before .before .before) .3 in
+    let e : chunks (length (x .cleartext .now)) ≡ length (x .nonces .now) / 12 = omega arith in
+    ap (λ (m : ℕ). repeats 12 m (x .nonces .now)) e ∙ sym (c .repeats .ensures)
+
+-- src/lib.rt:81:9
+sizes-right-requires : tie.Need-sizes-right-requires
+sizes-right-requires c κs = search needs
+
+-- src/lib.rt:82:9
+returns : tie.Need-returns
+returns c = 
+    let x = c .before .before .before .before .before .before .before .before .before .args in
+    row-1 (codec (x .enc .now) (x .mac .now)) (choice (x .header-nonce .now) (x .key .now) (x .nonces .now) (x .cleartext .now)) (x .out .now) (sym (c .before .sizes-right .ensures) ∙ not-true _ (c .if1 .taken))
+
+-- src/lib.rt:85:9
+returns-2 : tie.Need-returns-2
+returns-2 c = 
+    let b = c .before .before .before .before .before .before .before .before .before .before in
+    row-4 (combo b) (chosen b) (b .args .out .now) (sizes (c .before)) (omega arith)
+
+-- src/lib.rt:87:16
+add-size : tie.Need-add-size
+add-size c = search needs
+
+-- src/lib.rt:87:30
+chunks-requires : tie.Need-chunks-requires
+chunks-requires c κs = search needs
+
+-- src/lib.rt:87:25
+mul-size : tie.Need-mul-size
+mul-size c = search needs
+
+-- src/lib.rt:87:16
+add-size-2 : tie.Need-add-size-2
+add-size-2 c = search needs
+
+-- src/lib.rt:89:9
+returns-3 : tie.Need-returns-3
+returns-3 c = 
+    let b = c .before .before .before .before .before .before .before .before .before .before .before .before in
+    let k = c .before .chunks .ensures in
+    row-7 (combo b) (chosen b) (b .args .out .now) (sizes (c .before .before .before)) (omega arith) (omega arith)
+
+-- src/lib.rt:91:8
+repeats-requires : tie.Need-repeats-requires
+repeats-requires c κs = search needs
+
+-- src/lib.rt:92:9
+returns-4 : tie.Need-returns-4
+returns-4 c = 
+    let b = c .before .before .before .before .before .before .before .before .before .before .before .before .before .before in
+    let k = c .before .before .before .chunks .ensures in
+    row-8 (combo b) (chosen b) (b .args .out .now) (sizes (c .before .before .before .before .before)) (omega arith) (omega arith) (again (c .before) ∙ c .if4 .taken)
+
+-- src/lib.rt:94:58
+slice-relend-prefix-seal-file : tie.Need-slice-relend-prefix-seal-file
+slice-relend-prefix-seal-file c = search needs
+
+-- src/lib.rt:94:58
+slice-aggregate-seal-file : tie.Need-slice-aggregate-seal-file
+slice-aggregate-seal-file c = 
+    let x = c .before .before .before .before .before .before .before .before .before .before .before .before .before .before .before .args in
+    sym (length-take-le _ (x .out .now) (c .before .before .before .if3 .left))
+
+-- src/lib.rt:94:5
+seal-file-requires : tie.Need-seal-file-requires
+seal-file-requires c κs = 
+    let x = c .before .before .before .before .before .before .before .before .before .before .before .before .before .before .before .args in
+    let f = facts (c .before .before .before .before .before .before) in
+    let k = c .before .before .before .before .chunks .ensures in
+    ((f .0, f .1, f .2), (f .3, length-take-le _ (x .out .now) (c .before .before .before .if3 .left) ∙ omega arith))
+
+-- src/lib.rt:69:1
+same-length : tie.Need-same-length
+same-length c = search needs
+
+-- src/lib.rt:69:1
+returns-5 : tie.Need-returns-5
+returns-5 c = 
+    let t = c .before .before .before .before in
+    let b = t .before .before .before .before .before .before .before .before .before .before .before .before .before .before in
+    let out = b .args .out .now in
+    let k = t .before .before .before .chunks .ensures in
+    let f = c .before .before .seal-file .last .1 .1 .1 .1 .1 .0 in
+    let n = fileLength sivGcm (length (b .args .cleartext .now)) in
+    let e : 68 + length (b .args .cleartext .now) + 28 * t .before .before .before .chunks .result ≡ n = omega arith in
+    let l = front-length f out n (omega arith) (ap (λ (m : ℕ). length (f ++ drop m out)) (sym e) ∙ c .before .out .given .1) in
+    ap (λ (m : ℕ). ended (done (m ∷ [])) (f ++ drop m out)) e
+    ∙ no-row (combo b) (chosen b) out (sizes (t .before .before .before .before .before)) (omega arith) (omega arith) (again (t .before) ∙ t .if4 .left) f (c .before .before .seal-file .ensures (b .args .mac .now)) l
+
+pub write-file-spec : {M : Type 1} → statement M
+write-file-spec =
+    tie.close
+    (tie.spec
+    sizes-right-requires
+    returns
+    returns-2
+    add-size
+    chunks-requires
+    mul-size
+    add-size-2
+    returns-3
+    repeats-requires
+    returns-4
+    slice-relend-prefix-seal-file
+    slice-aggregate-seal-file
+    seal-file-requires
+    same-length
+    returns-5)
