@@ -6,6 +6,8 @@ use Rattle.answer.specs.declared.Refusal.{Refusal}
 use Rattle.answer.specs.declared.Refusal.the-variants.{KeyOrNonceSize, DirectoryId, NameSize, Length, Text, Range, Room, RepeatedNonce, Header, Chunk, HashName, SyntheticIv}
 use Rattle.answer.specs.declared.Answer.{Answer}
 use Rattle.answer.specs.declared.Answer.the-variants.{Done, Refused}
+use Rattle.answer.specs.declared.NameAnswer.{NameAnswer}
+use Rattle.answer.specs.declared.NameAnswer.the-variants as name
 
 abbrev pub row : Refusal → Outcome
 row KeyOrNonceSize = refused 1
@@ -24,3 +26,8 @@ row SyntheticIv = refused 12
 abbrev pub meaning : Answer → Outcome
 meaning (Done n) = done (n ∷ [])
 meaning (Refused r) = row r
+
+abbrev pub nameMeaning : NameAnswer → Outcome
+nameMeaning (name.Plain n) = done (n ∷ [])
+nameMeaning (name.Shortened stored full) = done (stored ∷ full ∷ [])
+nameMeaning (name.Refused r) = row r

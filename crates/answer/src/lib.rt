@@ -21,3 +21,10 @@ pub enum Answer {
     Done(usize),
     Refused(Refusal),
 }
+
+/// A name was written as it is stored, with its length; or shortened, with the lengths of the stored and of the full name; or refused.
+pub enum NameAnswer {
+    Plain(usize),
+    Shortened(usize, usize),
+    Refused(Refusal),
+}

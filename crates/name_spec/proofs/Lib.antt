@@ -1,0 +1,4 @@
+pub mod Texts
+pub mod Ends
+pub mod Openings
+pub mod Vectors

@@ -1,0 +1,108 @@
+-- What each call on names and directory paths ends in. enc and mac are the encryption and the MAC master key, id the directory's ID.
+-- Assumes nothing.
+use Prim.Native.Nat.{ℕ}
+use mathlib.Core.Bool.{Bool, _&&_, _||_, not, cond}
+use mathlib.Core.List.{List, [], _∷_}
+use lib.ListN.{length}
+use lib.Dec.{ltb}
+use Rattle.octets.specs.Bytes.{filled, same}
+use Rattle.octets.specs.Rows.{Outcome, done, refused, Row, answer, End, ending, leaves}
+use Rattle.siv_gcm.specs.SivGcm.{masterKeysRight}
+use Rattle.name_spec.specs.Names.{idRight, nameRight, path, fullName, fullLength, hashName, short, storedName, textRight, nameLength, nameOf, nameGood}
+
+-- ---- lengths of answers
+
+-- The characters of a path.
+abbrev pub pathLength : ℕ
+pathLength = 36
+
+-- The characters of a hash name.
+abbrev pub hashLength : ℕ
+hashLength = 32
+
+-- The characters of what is stored for a full name of n characters.
+abbrev pub storedLength : ℕ → ℕ
+storedLength n = cond (short n) n hashLength
+
+-- The lengths that are written for a full name of n characters: a name that is stored as it is has one, a shortened one that of its hash
+-- name and its own.
+abbrev pub writtenLengths : ℕ → List ℕ
+writtenLengths n = cond (short n) (n ∷ []) (hashLength ∷ n ∷ [])
+
+-- ---- two buffers
+
+-- What the name writer ends in: its answer, and what the buffers of the stored and of the full name hold afterwards.
+pub record NameEnd : Type 0 where
+  pub outcome : Outcome
+  pub stored : List ℕ
+  pub full : List ℕ
+
+abbrev pub nameEnded : Outcome → List ℕ → List ℕ → NameEnd
+nameEnded o stored full = record { outcome = o; stored = stored; full = full }
+
+-- A success leaves the new contents, and a refusal leaves both buffers as they were.
+abbrev pub nameEnding : Outcome → List ℕ → List ℕ → List ℕ → List ℕ → NameEnd
+nameEnding o newStored newFull stored full = nameEnded o (leaves o newStored stored) (leaves o newFull full)
+
+-- ---- the calls
+
+module _ (enc mac id : List ℕ) where
+  -- the path of a directory: a key's size (1), the directory ID (2), the buffer too short (7)
+  unfoldable pub dirPathRows : ℕ → List Row
+  dirPathRows room =
+      (not (masterKeysRight enc mac), refused 1)
+      ∷ (not (idRight id), refused 2)
+      ∷ (ltb room pathLength, refused 7)
+      ∷ []
+
+  unfoldable pub dirPath : List ℕ → End
+  dirPath out = ending (answer (dirPathRows (length out)) (done (pathLength ∷ []))) (filled (path enc mac id) pathLength out) out
+
+  -- writing a name: a key's size (1), the directory ID (2), the size of the name (3), a buffer shorter than its part of the answer (7): a name
+  -- that is stored as it is needs no room for a full name
+  unfoldable pub writeNameRows : List ℕ → ℕ → ℕ → List Row
+  writeNameRows name storedRoom fullRoom =
+      let n = fullLength (length name) in
+      (not (masterKeysRight enc mac), refused 1)
+      ∷ (not (idRight id), refused 2)
+      ∷ (not (nameRight name), refused 3)
+      ∷ (ltb storedRoom (storedLength n) || (not (short n) && ltb fullRoom n), refused 7)
+      ∷ []
+
+  -- The second buffer gets the full name of a shortened name, and is left as it was by any other.
+  unfoldable pub writeName : List ℕ → List ℕ → List ℕ → NameEnd
+  writeName name stored full =
+      let f = fullName enc mac id name in
+      let n = fullLength (length name) in
+      nameEnding (answer (writeNameRows name (length stored) (length full)) (done (writtenLengths n)))
+      (filled (storedName f) (storedLength n) stored) (cond (short n) full (filled f n full)) stored full
+
+  -- opening the text t as a name that is stored as it is: a key's size (1), the directory ID (2), the text form broken or more than 220
+  -- characters (5), the buffer too short (7), the synthetic IV wrong (12)
+  unfoldable pub openNameRows : List ℕ → ℕ → List Row
+  openNameRows t room =
+      (not (masterKeysRight enc mac), refused 1)
+      ∷ (not (idRight id), refused 2)
+      ∷ (not (textRight t) || not (short (length t)), refused 5)
+      ∷ (ltb room (nameLength t), refused 7)
+      ∷ (not (nameGood enc mac id t), refused 12)
+      ∷ []
+
+  unfoldable pub openName : List ℕ → List ℕ → End
+  openName t out = ending (answer (openNameRows t (length out)) (done (nameLength t ∷ []))) (filled (nameOf enc t) (nameLength t) out) out
+
+  -- opening a stored name s with its full name t: a key's size (1), the directory ID (2), the full name's text form broken (5), the buffer too
+  -- short (7), the full name of 220 or fewer characters or s not its hash name (11), the synthetic IV wrong (12)
+  unfoldable pub openLongNameRows : List ℕ → List ℕ → ℕ → List Row
+  openLongNameRows s t room =
+      (not (masterKeysRight enc mac), refused 1)
+      ∷ (not (idRight id), refused 2)
+      ∷ (not (textRight t), refused 5)
+      ∷ (ltb room (nameLength t), refused 7)
+      ∷ (short (length t) || not (same s (hashName t)), refused 11)
+      ∷ (not (nameGood enc mac id t), refused 12)
+      ∷ []
+
+  unfoldable pub openLongName : List ℕ → List ℕ → List ℕ → End
+  openLongName s t out =
+      ending (answer (openLongNameRows s t (length out)) (done (nameLength t ∷ []))) (filled (nameOf enc t) (nameLength t) out) out

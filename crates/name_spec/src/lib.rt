@@ -1,0 +1,1 @@
+// Names and directory paths as they are stored, and what each call on them ends in.

@@ -1,0 +1,74 @@
+-- `write_hash`: the characters of the digest, and the end.
+-- Assumes nothing.
+use Prim.Native.Nat.{ℕ}
+use mathlib.Core.Path.{_≡_, ap, _∙_}
+use mathlib.Core.Bool.{true}
+use mathlib.Core.List.{List}
+use native.Mathlib.Omega.{arith}
+use lib.ListN.{length}
+use Rattle.octets.specs.Bytes.{placed}
+use Rattle.sha1.specs.Message.{sha1}
+use Rattle.sha1.proofs.Laws.{twenty-bytes}
+use Rattle.encoding.specs.Base64url as base64url
+use Rattle.encoding.proofs.Laws.{encoded-length}
+use Rattle.name_spec.specs.Names.{hashEnd, hashName}
+use Rattle.names.proofs.Placing.{placed-after}
+use borrow.Author.Needs.{needs}
+use Rattle.names.proofs.texts.write_hash.Statement.{statement}
+use Rattle.names.proofs.texts.write_hash.Tie as tie
+use Rattle.names.proofs.texts.write_hash.Reads as reads
+use Rattle.names.proofs.texts.write_hash.Lts as lts
+use Rattle.encoding.proofs.base64url.encode.Reads as encode-reads
+use Rattle.octets.proofs.slice.copy_at.Reads as copy-at-reads
+use Rattle.sha1.proofs.digest.Reads as digest-reads
+
+digest-length : (c : tie.After-digest) → length (c .digest .result) ≡ 20
+digest-length c = ap length (c .digest .ensures) ∙ twenty-bytes (c .before .before .before .args .full .now) .0
+
+-- src/texts.rt:36:24
+digest-requires : tie.Need-digest-requires
+digest-requires c κs = search needs
+
+-- src/texts.rt:36:23
+slice-aggregate-encode : tie.Need-slice-aggregate-encode
+slice-aggregate-encode c = search needs
+
+-- src/texts.rt:36:5
+encode-requires : tie.Need-encode-requires
+unfolding base64url.encodedLength
+encode-requires c κs = let n = digest-length (c .before .before) in omega (arith, n, c .before .before .before .before .before .pre)
+
+-- src/texts.rt:37:13
+slice-aggregate-copy-at : tie.Need-slice-aggregate-copy-at
+slice-aggregate-copy-at c = search needs
+
+-- src/texts.rt:37:5
+copy-at-requires : tie.Need-copy-at-requires
+copy-at-requires c κs = search needs
+
+-- src/texts.rt:32:1
+same-length : tie.Need-same-length
+same-length c = search needs
+
+-- src/texts.rt:32:1
+returns : tie.Need-returns
+unfolding hashName base64url.encodedLength
+returns c =
+    let k = c .before .before .before .before .before .before .before .before .before .before in
+    let x = k .before .before .before .args in
+    let h = sha1 (x .full .now) in
+    c .before .before .copy-at .ensures
+    ∙ ap (placed hashEnd 28) (c .before .before .before .before .before .before .before .encode .ensures ∙ ap (λ (l : List ℕ). placed (base64url.encode true l) 0 (x .out .now)) (k .digest .ensures))
+    ∙ placed-after (base64url.encode true h) hashEnd (x .out .now) 28 (encoded-length true h ∙ ap (base64url.encodedLength true) (twenty-bytes (x .full .now) .0))
+
+pub write-hash-spec : {M : Type 1} → statement M
+write-hash-spec =
+    tie.close
+    (tie.spec
+    digest-requires
+    slice-aggregate-encode
+    encode-requires
+    slice-aggregate-copy-at
+    copy-at-requires
+    same-length
+    returns)

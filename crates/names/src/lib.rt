@@ -1,0 +1,5 @@
+// The calls on names and directory paths. Each takes any bytes, and a refusal changes none.
+mod checks;
+mod keyed;
+pub mod path;
+mod texts;

@@ -1,0 +1,47 @@
+// Full names and hash names.
+use crate::keyed::open_under;
+use crate::keyed::seal_under;
+use encoding::base64url;
+use encoding::base64url::Measure;
+use octets::slice::copy_at;
+use octets::slice::equal;
+use sha1::digest;
+ghost use mathlib.Core.Path.{_≡_};
+ghost use mathlib.Core.Bool.{true, cond};
+ghost use Prim.Native.Nat.{_≤_};
+ghost use lib.ListN.{length};
+ghost use Rattle.octets.specs.Bytes.{placed, filled, same};
+ghost use Rattle.siv_gcm.specs.SivGcm.{masterKeysRight};
+ghost use Rattle.name_spec.specs.Names as spec;
+ghost use Rattle.name_spec.specs.Calls.{hashLength};
+
+// Writes the full name to the front of out.
+pub fn write_full(enc: &[u8], mac: &[u8], id: &[u8], name: &[u8], out: &mut [u8])
+    requires { ⌜ masterKeysRight (now enc) (now mac) ≡ true ⌝ }
+    requires { ⌜ (length (now name) ≤ spec.nameLimit) × (spec.fullLength (length (now name)) ≤ length (now out)) ⌝ }
+    ensures { λ _. ⌜ now (out .exit) ≡ placed (spec.fullName (now (enc .entry)) (now (mac .entry)) (now (id .entry)) (now (name .entry))) 0 (now (out .entry)) ⌝ }
+{
+    let mut sealed = [0u8; 271];
+    seal_under(enc, mac, true, id, name, &mut sealed);
+    let m = name.len() + 16;
+    base64url::encode(&sealed[..m], true, out);
+    copy_at(b".c9r", out, base64url::encoded_length(m, true));
+}
+
+// Writes the hash name of a full name to the front of out.
+pub fn write_hash(full: &[u8], out: &mut [u8])
+    requires { ⌜ hashLength ≤ length (now out) ⌝ }
+    ensures { λ _. ⌜ now (out .exit) ≡ placed (spec.hashName (now (full .entry))) 0 (now (out .entry)) ⌝ }
+{
+    base64url::encode(&digest(full), true, out);
+    copy_at(b".c9s", out, 28);
+}
+
+// Is this the hash name of the full name?
+pub fn is_hash(stored: &[u8], full: &[u8]) -> bool
+    ensures { λ r. ⌜ r ≡ same (now (stored .entry)) (spec.hashName (now (full .entry))) ⌝ }
+{
+    let mut hash = [0u8; 32];
+    write_hash(full, &mut hash);
+    equal(stored, &hash)
+}
