@@ -1,27 +1,26 @@
 -- Names open exactly where they were written; moved names; and the points.
 -- Assumes nothing.
-use Prim.Native.Nat.{ℕ, _+_, _-_, _≤_, _<_}
-use mathlib.Core.Path.{_≡_, refl, sym, ap, ap₂, subst, _∙_}
+use Prim.Native.Nat.{ℕ, _≤_, _<_}
+use mathlib.Core.Path.{_≡_, refl, sym, ap, ap₂, _∙_}
 use mathlib.Core.Bool.{Bool, true, false, not, _||_, cond}
 use mathlib.Core.Logic.{_↔_}
 use mathlib.Core.List.{List, [], _∷_}
 use native.Mathlib.Omega.{arith}
 use lib.ListN.{length}
-use lib.Dec.{ltb, leb}
-use borrow.Author.Tests.{le-leb, lt-leb, leb-true, leb-false, le-ltb, ltb-false, not-true, not-false}
-use Rattle.octets.specs.Bytes.{Bytes, filled, same}
-use Rattle.octets.specs.Rows.{done, refused, answer, First, NoRow, End, ended, Succeeded}
-use Rattle.octets.proofs.Equality.{and-true, same-self, same-eq}
-use Rattle.octets.proofs.Rows.{done-none, none-ends}
+use lib.Dec.{ltb}
+use borrow.Author.Tests.{le-leb, lt-leb, leb-true, leb-false, le-ltb, not-false}
+use Rattle.octets.specs.Bytes.{filled, same}
+use Rattle.octets.specs.Rows.{done, refused, answer, End, ended, Succeeded}
+use Rattle.octets.proofs.Equality.{same-self, same-eq}
+use Rattle.octets.proofs.Rows.{done-none}
 use Rattle.aes_spec.specs.Cipher.{aes}
 use Rattle.siv.specs.Siv.{s2v}
-use Rattle.siv_gcm.specs.SivGcm.{masterKeysRight}
 use Rattle.encoding.specs.Base64url.{encodedLength}
-use Rattle.name_spec.specs.Names.{nameLimit, threshold, idRight, nameRight, fullName, fullLength, hashName, short, storedName, textRight, nameLength, nameOf, nameGood}
-use Rattle.name_spec.specs.Calls.{hashLength, writtenLengths, nameEnded, writeNameRows, writeName, openNameRows, openName, openLongNameRows, openLongName}
+use Rattle.name_spec.specs.Names.{threshold, fullName, fullLength, hashName, short, storedName, textRight, nameLength, nameOf, nameGood}
+use Rattle.name_spec.specs.Calls.{nameEnded, writeNameRows, openNameRows, openName, openLongNameRows, openLongName}
 use Rattle.name_spec.specs.Statements.{NameFits, Directory, NameWrittenOpens, NameOpensExactly, LongNameOpensExactly, MovedNameExactly, NamePoints}
-use Rattle.name_spec.proofs.Texts.{length-hash, length-full, full-length, full-right, full-name, full-good, name-fits, was-full}
-use Rattle.name_spec.proofs.Ends.{name-rows-exactly, writer-rows-exactly}
+use Rattle.name_spec.proofs.Texts.{name-sizes, length-hash, length-full, full-length, full-right, full-name, full-good, name-fits, was-full}
+use Rattle.name_spec.proofs.Ends.{name-rows-exactly, plain-written, long-written}
 
 or-false : (a b : Bool) → (a || b) ≡ false → (a ≡ false) × (b ≡ false)
 or-false true b e = absurd (let z : _≡_ {A = ℕ} 0 1 = cc in omega arith)
@@ -147,16 +146,18 @@ long-name-opens-exactly enc mac id s t out d room = ((was-written, λ w. (length
 -- ---- what is written opens
 
 pub name-written-opens : (enc mac id : List ℕ) → NameWrittenOpens enc mac id
-unfolding writeNameRows nameRight
+unfolding writeNameRows
 name-written-opens enc mac id name stored full into be bm bn rows room =
     let f = fullName enc mac id name in
-    let sized = and-true (leb 1 (length name)) (leb (length name) nameLimit) (not-false _ (rows .1 .1 .0)) in
-    let fits : NameFits name = record { some = leb-true 1 (length name) (sized .0); size = leb-true (length name) nameLimit (sized .1); bytes = bn } in
+    let sized = name-sizes name (not-false _ (rows .1 .1 .0)) in
+    let fits : NameFits name = record { some = sized .0; size = sized .1; bytes = bn } in
     let d : Directory enc mac id = record { keys = not-false _ (rows .0); id-right = not-false _ (rows .1 .0); enc-bytes = be; mac-bytes = bm } in
-    let exact = writer-rows-exactly enc mac id name stored full in (
-      λ h. (exact .0 h .1 .1 rows, plain-opens enc mac id d name into fits room h),
+    let l = length-full enc mac id name in
+    let done-so = name-rows-exactly enc mac id .1 name stored full .1 .1 rows in (
+      λ h. (done-so ∙ plain-written enc mac id name stored full (length f) l h, plain-opens enc mac id d name into fits room h),
       λ h. (
-        exact .1 h .1 .1 rows ∙ ap (λ (n : ℕ). nameEnded (done (n ∷ length f ∷ [])) (filled (hashName f) n stored) (filled f (length f) full)) (sym (length-hash f)),
+        done-so ∙ long-written enc mac id name stored full (length f) l h
+            ∙ ap (λ (n : ℕ). nameEnded (done (n ∷ length f ∷ [])) (filled (hashName f) n stored) (filled f (length f) full)) (sym (length-hash f)),
         long-opens enc mac id d name into fits room h,
       ),
     )

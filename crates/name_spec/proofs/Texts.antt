@@ -1,12 +1,12 @@
 -- The lengths of the texts, and the text form: full names have it, and what has it and opens is a full name.
 -- Assumes nothing.
 use Prim.Native.Nat.{ℕ, _+_, _-_, _≤_}
-use mathlib.Core.Path.{_≡_, refl, sym, ap, ap₂, _∙_}
-use mathlib.Core.Bool.{Bool, true, _&&_}
+use mathlib.Core.Path.{_≡_, sym, ap, ap₂, _∙_}
+use mathlib.Core.Bool.{true, _&&_}
 use mathlib.Core.List.{List, [], _∷_, _++_}
 use native.Mathlib.Omega.{arith}
 use lib.ListN.{length, take, drop, length-append, length-take, length-drop, take-append-drop}
-use lib.Seq.{take-at, drop-at, length-take-le}
+use lib.Seq.{take-at, drop-at}
 use lib.Dec.{leb}
 use borrow.Author.Tests.{le-leb, leb-true}
 use Rattle.octets.specs.Bytes.{Bytes, same}
@@ -18,11 +18,10 @@ use Rattle.siv.specs.Siv as siv
 use Rattle.siv.proofs.Laws.{length-s2v, length-seal, length-plain, sealed-opens, opened-was-sealed, keeps-bytes}
 use Rattle.sha1.specs.Message.{sha1}
 use Rattle.sha1.proofs.Laws.{twenty-bytes}
-use Rattle.encoding.specs.Base32 as base32
 use Rattle.encoding.specs.Base64url as base64url
 use Rattle.encoding.proofs.Laws.{encoded-decodes, decoded-was-encoded, encoded-length}
 use Rattle.encoding.proofs.Quintets.{base32-length}
-use Rattle.name_spec.specs.Names.{idLimit, nameLimit, ivSize, ascii, idRight, dataFolder, slash, fullEnd, hashEnd, sealedId, idHash, path, sealedName, fullName, fullLength, hashName, stem, sealedOf, nameLength, textRight, nameOf, nameGood}
+use Rattle.name_spec.specs.Names.{idLimit, nameLimit, ivSize, ascii, idRight, nameRight, fullEnd, hashEnd, sealedId, idHash, path, sealedName, fullName, fullLength, hashName, stem, sealedOf, nameLength, textRight, nameOf, nameGood}
 use Rattle.name_spec.specs.Calls.{pathLength, hashLength}
 use Rattle.name_spec.specs.Statements.{TextLengths, NameFits}
 
@@ -31,6 +30,16 @@ use Rattle.name_spec.specs.Statements.{TextLengths, NameFits}
 pub id-size : (id : List ℕ) → idRight id ≡ true → length id ≤ idLimit
 unfolding idRight
 id-size id e = leb-true (length id) idLimit (and-true (leb (length id) idLimit) (ascii id) e .0)
+
+pub name-sizes : (name : List ℕ) → nameRight name ≡ true → (1 ≤ length name) × (length name ≤ nameLimit)
+unfolding nameRight
+name-sizes name e =
+    let p = and-true (leb 1 (length name)) (leb (length name) nameLimit) e in
+    (leb-true 1 (length name) (p .0), leb-true (length name) nameLimit (p .1))
+
+pub length-name : (enc t : List ℕ) → length (nameOf enc t) ≡ nameLength t
+unfolding nameOf nameLength
+length-name enc t = length-plain (aes 8 enc) (length-aes 8 enc) (sealedOf t)
 
 pub length-hash : (full : List ℕ) → length (hashName full) ≡ hashLength
 unfolding hashName base64url.encodedLength
@@ -96,6 +105,9 @@ text-facts t e =
       low = leb-true _ _ (b .1);
       high = leb-true _ _ (a .1);
     }
+
+pub text-size : (t : List ℕ) → textRight t ≡ true → 4 ≤ length t
+text-size t e = omega (arith, ap length (text-facts t e .ends), length-drop (length t - length fullEnd) t)
 
 pub text-right : (t : List ℕ) → TextFacts t → textRight t ≡ true
 unfolding textRight
@@ -173,9 +185,9 @@ module _ (enc mac id t : List ℕ) (be : Bytes enc) (right : textRight t ≡ tru
   encoded = sym (decoded-was-encoded true (stem t) (facts .accepted) .0)
 
   pub name-fits : NameFits (nameOf enc t)
-  unfolding nameOf
+  unfolding nameOf nameLength
   name-fits =
-      let l = length-plain (aes 8 enc) (length-aes 8 enc) (sealedOf t) in
+      let l = length-name enc t in
       record {
         some = omega (arith, l, facts .low);
         size = omega (arith, l, facts .high);

@@ -29,6 +29,10 @@ storedLength n = cond (short n) n hashLength
 abbrev pub writtenLengths : ℕ → List ℕ
 writtenLengths n = cond (short n) (n ∷ []) (hashLength ∷ n ∷ [])
 
+-- A buffer is shorter than its part of the answer; a name that is stored as it is needs no room for a full name.
+abbrev pub lacksRoom : ℕ → ℕ → ℕ → Bool
+lacksRoom storedRoom fullRoom n = ltb storedRoom (storedLength n) || (not (short n) && ltb fullRoom n)
+
 -- ---- two buffers
 
 -- What the name writer ends in: its answer, and what the buffers of the stored and of the full name hold afterwards.
@@ -58,15 +62,13 @@ module _ (enc mac id : List ℕ) where
   unfoldable pub dirPath : List ℕ → End
   dirPath out = ending (answer (dirPathRows (length out)) (done (pathLength ∷ []))) (filled (path enc mac id) pathLength out) out
 
-  -- writing a name: a key's size (1), the directory ID (2), the size of the name (3), a buffer shorter than its part of the answer (7): a name
-  -- that is stored as it is needs no room for a full name
+  -- writing a name: a key's size (1), the directory ID (2), the size of the name (3), a buffer too short (7)
   unfoldable pub writeNameRows : List ℕ → ℕ → ℕ → List Row
   writeNameRows name storedRoom fullRoom =
-      let n = fullLength (length name) in
       (not (masterKeysRight enc mac), refused 1)
       ∷ (not (idRight id), refused 2)
       ∷ (not (nameRight name), refused 3)
-      ∷ (ltb storedRoom (storedLength n) || (not (short n) && ltb fullRoom n), refused 7)
+      ∷ (lacksRoom storedRoom fullRoom (fullLength (length name)), refused 7)
       ∷ []
 
   -- The second buffer gets the full name of a shortened name, and is left as it was by any other.

@@ -1,18 +1,18 @@
 -- What the theorems say of names and directory paths. `proofs/` proves each under its name.
 -- Assumes nothing.
 use mathlib.Core.Path.{_≡_}
-use mathlib.Core.Bool.{true, false}
+use mathlib.Core.Bool.{true, false, cond}
 use mathlib.Core.Logic.{_↔_}
 use mathlib.Core.List.{List, [], _∷_}
 use Prim.Native.Nat.{ℕ, _≤_, _<_}
 use lib.ListN.{length}
 use Rattle.octets.specs.Bytes.{Bytes, filled, same}
-use Rattle.octets.specs.Rows.{Outcome, done, refused, Row, First, NoRow, outcomeAt, EndsExactly, ended, Succeeded}
+use Rattle.octets.specs.Rows.{done, refused, Row, First, NoRow, outcomeAt, EndsExactly, ended, Succeeded}
 use Rattle.aes_spec.specs.Cipher.{aes}
 use Rattle.siv.specs.Siv.{s2v}
 use Rattle.siv_gcm.specs.SivGcm.{masterKeysRight}
-use Rattle.name_spec.specs.Names.{nameLimit, threshold, idRight, path, fullName, fullLength, hashName, storedName, nameLength, nameOf}
-use Rattle.name_spec.specs.Calls.{pathLength, hashLength, writtenLengths, NameEnd, nameEnded, dirPathRows, dirPath, writeNameRows, writeName, openNameRows, openName, openLongNameRows, openLongName}
+use Rattle.name_spec.specs.Names.{nameLimit, threshold, idRight, path, fullName, fullLength, hashName, short, storedName, nameLength, nameOf}
+use Rattle.name_spec.specs.Calls.{pathLength, hashLength, storedLength, writtenLengths, NameEnd, nameEnded, dirPathRows, dirPath, writeNameRows, writeName, openNameRows, openName, openLongNameRows, openLongName}
 
 -- A name of 1 to 255 bytes.
 pub record NameFits (name : List ℕ) : Type 0 where
@@ -46,20 +46,14 @@ module _ (enc mac id : List ℕ) where
   abbrev pub NameRowsExactly : Type 0
   NameRowsExactly =
       ((out : List ℕ) → EndsExactly (dirPathRows enc mac id (length out)) (pathLength ∷ []) (filled (path enc mac id) pathLength out) out (dirPath enc mac id out))
+      × ((name stored full : List ℕ) →
+      let f = fullName enc mac id name in
+      let n = fullLength (length name) in
+      NameEndsExactly (writeNameRows enc mac id name (length stored) (length full)) (writtenLengths n)
+      (filled (storedName f) (storedLength n) stored) (cond (short n) full (filled f n full)) stored full (writeName enc mac id name stored full))
       × ((t out : List ℕ) → EndsExactly (openNameRows enc mac id t (length out)) (nameLength t ∷ []) (filled (nameOf enc t) (nameLength t) out) out (openName enc mac id t out))
       × ((s t out : List ℕ)
       → EndsExactly (openLongNameRows enc mac id s t (length out)) (nameLength t ∷ []) (filled (nameOf enc t) (nameLength t) out) out (openLongName enc mac id s t out))
-
-  -- The rows of the name writer: those that apply, and where none does what it writes for a name that is stored as it is and for one that is
-  -- shortened. Any keys.
-  abbrev pub WriterRowsExactly : Type 0
-  WriterRowsExactly =
-      (name stored full : List ℕ) →
-      let f = fullName enc mac id name in
-      let rows = writeNameRows enc mac id name (length stored) (length full) in
-      let e = writeName enc mac id name stored full in
-      (length f ≤ threshold → NameEndsExactly rows (length f ∷ []) (filled f (length f) stored) full stored full e)
-      × (threshold < length f → NameEndsExactly rows (hashLength ∷ length f ∷ []) (filled (hashName f) hashLength stored) (filled f (length f) full) stored full e)
 
   -- What the name writer writes opens in the same directory to the name that went in: a full name of at most 220 characters by itself, a longer
   -- one with its hash name.

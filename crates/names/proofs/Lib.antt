@@ -1,2 +1,4 @@
 pub mod Keys
 pub mod Placing
+pub mod Measured
+pub mod Room

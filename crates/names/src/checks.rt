@@ -1,10 +1,19 @@
 // What the rows of several calls look at.
+use encoding::base64url;
+use encoding::base64url::Measure;
+use octets::slice::equal;
 ghost use mathlib.Core.Path.{_≡_};
+ghost use mathlib.Core.Bool.{cond};
 ghost use Rattle.siv_gcm.specs.SivGcm.{masterKeysRight};
 ghost use Rattle.name_spec.specs.Names as spec;
 
-// The most bytes of a directory ID.
+// The most bytes of a directory ID, and of a name.
 const ID_LIMIT: usize = 36;
+
+const NAME_LIMIT: usize = 255;
+
+// The most characters of a full name that is stored as it is.
+const THRESHOLD: usize = 220;
 
 // Do both master keys have their size?
 pub fn keys_right(enc: &[u8], mac: &[u8]) -> bool
@@ -37,4 +46,45 @@ pub fn id_right(id: &[u8]) -> bool
         return false;
     }
     ascii(id)
+}
+
+pub fn name_right(name: &[u8]) -> bool
+    ensures { λ r. ⌜ r ≡ spec.nameRight (now (name .entry)) ⌝ }
+{
+    if name.len() < 1 {
+        return false;
+    }
+    name.len() <= NAME_LIMIT
+}
+
+// Is a full name of n characters stored as it is?
+pub fn short(n: usize) -> bool
+    ensures { λ r. ⌜ r ≡ spec.short n ⌝ }
+{
+    n <= THRESHOLD
+}
+
+// How many bytes the name in a text has, or 0 if the text's form is broken.
+pub fn name_length(text: &[u8]) -> usize
+    ensures { λ r. ⌜ r ≡ cond (spec.textRight (now (text .entry))) (spec.nameLength (now (text .entry))) 0 ⌝ }
+{
+    if text.len() < 4 {
+        return 0;
+    }
+    let k = text.len() - 4;
+    if !equal(&text[k..], b".c9r") {
+        return 0;
+    }
+    match base64url::check(&text[..k], true) {
+        Measure::Refused => 0,
+        Measure::Accepted(m) => {
+            if m < 17 {
+                return 0;
+            }
+            if NAME_LIMIT + 16 < m {
+                return 0;
+            }
+            m - 16
+        }
+    }
 }

@@ -1,8 +1,7 @@
-// Full names and hash names.
+// Full names and hash names, written and opened.
 use crate::keyed::open_under;
 use crate::keyed::seal_under;
 use encoding::base64url;
-use encoding::base64url::Measure;
 use octets::slice::copy_at;
 use octets::slice::equal;
 use sha1::digest;
@@ -10,10 +9,18 @@ ghost use mathlib.Core.Path.{_≡_};
 ghost use mathlib.Core.Bool.{true, cond};
 ghost use Prim.Native.Nat.{_≤_};
 ghost use lib.ListN.{length};
-ghost use Rattle.octets.specs.Bytes.{placed, filled, same};
+ghost use Rattle.octets.specs.Bytes.{placed, same};
 ghost use Rattle.siv_gcm.specs.SivGcm.{masterKeysRight};
 ghost use Rattle.name_spec.specs.Names as spec;
 ghost use Rattle.name_spec.specs.Calls.{hashLength};
+
+// How many characters the full name of a name of n bytes has.
+pub fn full_length(n: usize) -> usize
+    requires { ⌜ n ≤ spec.nameLimit ⌝ }
+    ensures { λ r. ⌜ r ≡ spec.fullLength n ⌝ }
+{
+    base64url::encoded_length(n + 16, true) + 4
+}
 
 // Writes the full name to the front of out.
 pub fn write_full(enc: &[u8], mac: &[u8], id: &[u8], name: &[u8], out: &mut [u8])
@@ -44,4 +51,23 @@ pub fn is_hash(stored: &[u8], full: &[u8]) -> bool
     let mut hash = [0u8; 32];
     write_hash(full, &mut hash);
     equal(stored, &hash)
+}
+
+// Opens a text in the form of a full name, of a name of n bytes. The name goes to the front of out only where the synthetic IV matches.
+pub fn open_text(enc: &[u8], mac: &[u8], id: &[u8], text: &[u8], n: usize, out: &mut [u8]) -> bool
+    requires { ⌜ masterKeysRight (now enc) (now mac) ≡ true ⌝ }
+    requires { ⌜ (spec.textRight (now text) ≡ true) × (n ≡ spec.nameLength (now text)) × (n ≤ length (now out)) ⌝ }
+    ensures { λ r. ⌜ r ≡ spec.nameGood (now (enc .entry)) (now (mac .entry)) (now (id .entry)) (now (text .entry)) ⌝ }
+    ensures { λ r. ⌜ now (out .exit) ≡ cond r (placed (spec.nameOf (now (enc .entry)) (now (text .entry))) 0 (now (out .entry))) (now (out .entry)) ⌝ }
+{
+    let k = text.len() - 4;
+    let mut sealed = [0u8; 271];
+    base64url::decode(&text[..k], true, &mut sealed);
+    let m = n + 16;
+    let mut name = [0u8; 255];
+    if !open_under(enc, mac, id, &sealed[..m], &mut name) {
+        return false;
+    }
+    copy_at(&name[..n], out, 0);
+    true
 }

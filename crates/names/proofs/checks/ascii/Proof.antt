@@ -1,3 +1,5 @@
+-- `ascii`: the bytes passed are below 128; a byte that is not decides.
+-- Assumes nothing.
 use Prim.Native.Nat.{ℕ, _+_, _-_, _≤_, _<_}
 use mathlib.Core.Path.{_≡_, refl, sym, ap, _∙_}
 use mathlib.Core.Bool.{false}
@@ -12,8 +14,6 @@ use Rattle.octets.proofs.Lists.{drop-all}
 use Rattle.name_spec.specs.Names.{ascii}
 use Rattle.names.proofs.checks.ascii.Statement.{statement}
 use Rattle.names.proofs.checks.ascii.Tie as tie
-use Rattle.names.proofs.checks.ascii.Reads as reads
-use Rattle.names.proofs.checks.ascii.Lts as lts
 
 abbrev Inv-loop : tie.InvT-loop
 Inv-loop s i₀ i = (i ≤ length s) × (ascii s ≡ ascii (drop i s))
@@ -29,37 +29,30 @@ not-ascii : (s : List ℕ) (i : ℕ) → i < length s → 128 ≤ getD s i 0 →
 unfolding ascii
 not-ascii s i h k = rw (drop-cons s i 0 h, ascii, le-ltb (getD s i 0) 128 k)
 
--- src/checks.rt:24:5
 loop-holds : tie.Need-loop-holds Inv-loop μ-loop
 loop-holds c = (search needs, refl)
 
--- src/checks.rt:25:19
 shared-slice-read-if1 : tie.Need-shared-slice-read-if1 Inv-loop μ-loop
 shared-slice-read-if1 c = search needs
 
--- src/checks.rt:26:13
 returns : tie.Need-returns Inv-loop μ-loop
 returns c =
     let l = c .before .before .before .loop in
     let s = c .before .before .before .before .args .s .now in
     sym (l .inv .1 ∙ not-ascii s (l .i) (omega arith) (omega arith))
 
--- src/checks.rt:28:9
 add-i : tie.Need-add-i Inv-loop μ-loop
 add-i c = search needs
 
--- src/checks.rt:24:5
 loop-less : tie.Need-loop-less Inv-loop μ-loop
 loop-less c = search needs
 
--- src/checks.rt:24:5
 loop-again : tie.Need-loop-again Inv-loop μ-loop
 loop-again c =
     let l = c .before .before .before .loop in
     let s = c .before .before .before .before .args .s .now in
     (search needs, l .inv .1 ∙ next-ascii s (l .i) (omega arith) (omega arith))
 
--- src/checks.rt:20:1
 returns-2 : tie.Need-returns-2 Inv-loop μ-loop
 unfolding ascii
 returns-2 c =

@@ -1,25 +1,19 @@
 -- `id_right`: the length, and each byte.
 -- Assumes nothing.
-use mathlib.Core.Path.{_≡_, sym, _∙_}
+use mathlib.Core.Path.{sym, _∙_}
 use borrow.Author.Tests.{le-leb, lt-leb}
 use Rattle.name_spec.specs.Names.{idRight}
 use borrow.Author.Needs.{needs}
 use Rattle.names.proofs.checks.id_right.Statement.{statement}
 use Rattle.names.proofs.checks.id_right.Tie as tie
-use Rattle.names.proofs.checks.id_right.Reads as reads
-use Rattle.names.proofs.checks.id_right.Lts as lts
-use Rattle.names.proofs.checks.ascii.Reads as ascii-reads
 
--- src/checks.rt:37:9
 returns : tie.Need-returns
 unfolding idRight
 returns c = rw (lt-leb _ _ (c .if1 .taken))
 
--- src/checks.rt:39:5
 ascii-requires : tie.Need-ascii-requires
 ascii-requires c κs = search needs
 
--- src/checks.rt:33:1
 returns-2 : tie.Need-returns-2
 unfolding idRight
 returns-2 c = c .ascii .ensures ∙ sym (rw (le-leb _ _ (c .before .if1 .left)))

@@ -1,6 +1,6 @@
 -- `open_under`: opening under the two expanded keys, into the front of the buffer.
 -- Assumes nothing.
-use Prim.Native.Nat.{ℕ, _+_, _-_, _≤_}
+use Prim.Native.Nat.{ℕ, _-_}
 use mathlib.Core.Path.{_≡_, sym, _∙_, ap, ap₂}
 use mathlib.Core.List.{List, [], _∷_, _++_}
 use native.Mathlib.Omega.{arith}
@@ -15,11 +15,6 @@ use Rattle.names.proofs.Placing.{at-front}
 use borrow.Author.Needs.{needs}
 use Rattle.names.proofs.keyed.open_under.Statement.{statement}
 use Rattle.names.proofs.keyed.open_under.Tie as tie
-use Rattle.names.proofs.keyed.open_under.Reads as reads
-use Rattle.names.proofs.keyed.open_under.Lts as lts
-use Rattle.aes.proofs.key.expand.Reads as expand-reads
-use Rattle.aes.proofs.round_table.table.Reads as table-reads
-use Rattle.siv.proofs.seal.open_into.Reads as open-into-reads
 
 room : (c : tie.After-open-into-arg) →
     let x = c .before .before .before .before .before .before .before .before .before .before .before .before .before .before .before .before .args in
@@ -29,47 +24,36 @@ room c =
     let p = c .before .before .before .before .before .before .before .before .before .before .before .before .before .before .before .before .pre .1 in
     length-take-le (length (x .sealed .now) - 16) (x .out .now) (omega (arith, p .0, p .2))
 
--- src/keyed.rt:46:13
 table-requires : tie.Need-table-requires
 table-requires c κs = search needs
 
--- src/keyed.rt:48:17
 slice-aggregate-expand : tie.Need-slice-aggregate-expand
 slice-aggregate-expand c = search needs
 
--- src/keyed.rt:48:5
 expand-requires : tie.Need-expand-requires
 expand-requires c κs = (key-sizes _ _ (c .before .before .before .before .before .before .before .pre .0) .1, search needs)
 
--- src/keyed.rt:50:17
 slice-aggregate-expand-2 : tie.Need-slice-aggregate-expand-2
 slice-aggregate-expand-2 c = search needs
 
--- src/keyed.rt:50:5
 expand-requires-2 : tie.Need-expand-requires-2
 expand-requires-2 c κs = (key-sizes _ _ (c .before .before .before .before .before .before .before .before .before .before .pre .0) .0, search needs)
 
--- src/keyed.rt:51:13
 sub-n : tie.Need-sub-n
 sub-n c = search needs
 
--- src/keyed.rt:52:19
 slice-aggregate-open-into : tie.Need-slice-aggregate-open-into
 slice-aggregate-open-into c = search needs
 
--- src/keyed.rt:52:27
 slice-aggregate-open-into-2 : tie.Need-slice-aggregate-open-into-2
 slice-aggregate-open-into-2 c = search needs
 
--- src/keyed.rt:52:53
 slice-relend-prefix-open-into : tie.Need-slice-relend-prefix-open-into
 slice-relend-prefix-open-into c = search needs
 
--- src/keyed.rt:52:53
 slice-aggregate-open-into-3 : tie.Need-slice-aggregate-open-into-3
 slice-aggregate-open-into-3 c = sym (room c)
 
--- src/keyed.rt:52:5
 open-into-requires : tie.Need-open-into-requires
 open-into-requires c κs =
     let k = c .before .before .before .before .before .before .before .before .before .before in
@@ -77,11 +61,9 @@ open-into-requires c κs =
     let r = room c in
     (k .table .ensures, ((search needs, search needs), (omega (arith, r, p .0), omega (arith, r, p .1))))
 
--- src/keyed.rt:40:1
 same-length : tie.Need-same-length
 same-length c = search needs
 
--- src/keyed.rt:40:1
 returns : tie.Need-returns
 returns c =
     let k = c .before .before .before .before .before .before .before .before in

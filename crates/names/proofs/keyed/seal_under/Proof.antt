@@ -1,8 +1,8 @@
 -- `seal_under`: sealing under the two expanded keys, at the front of the buffer.
 -- Assumes nothing.
-use Prim.Native.Nat.{ℕ, _+_, _-_, _≤_}
+use Prim.Native.Nat.{ℕ, _+_}
 use mathlib.Core.Path.{_≡_, sym, _∙_, ap, ap₂}
-use mathlib.Core.List.{List, [], _∷_, _++_}
+use mathlib.Core.List.{List, _++_}
 use native.Mathlib.Omega.{arith}
 use lib.ListN.{length, take, drop}
 use lib.Seq.{length-take-le}
@@ -16,69 +16,51 @@ use Rattle.names.proofs.Placing.{at-front}
 use borrow.Author.Needs.{needs}
 use Rattle.names.proofs.keyed.seal_under.Statement.{statement}
 use Rattle.names.proofs.keyed.seal_under.Tie as tie
-use Rattle.names.proofs.keyed.seal_under.Reads as reads
-use Rattle.names.proofs.keyed.seal_under.Lts as lts
-use Rattle.aes.proofs.key.expand.Reads as expand-reads
-use Rattle.aes.proofs.round_table.table.Reads as table-reads
-use Rattle.siv.proofs.seal.seal.Reads as seal-reads
 
 room : (c : tie.After-seal-arg) →
     let x = c .before .before .before .before .before .before .before .before .before .before .before .before .before .before .before .before .args in
     length (take (length (x .cleartext .now) + 16) (x .out .now)) ≡ length (x .cleartext .now) + 16
 room c = let x = c .before .before .before .before .before .before .before .before .before .before .before .before .before .before .before .before .args in length-take-le (length (x .cleartext .now) + 16) (x .out .now) (c .before .before .before .before .before .before .before .before .before .before .before .before .before .before .before .before .pre .1 .1)
 
--- src/keyed.rt:30:13
 table-requires : tie.Need-table-requires
 table-requires c κs = search needs
 
--- src/keyed.rt:32:17
 slice-aggregate-expand : tie.Need-slice-aggregate-expand
 slice-aggregate-expand c = search needs
 
--- src/keyed.rt:32:5
 expand-requires : tie.Need-expand-requires
 expand-requires c κs = (key-sizes _ _ (c .before .before .before .before .before .before .before .pre .0) .1, search needs)
 
--- src/keyed.rt:34:17
 slice-aggregate-expand-2 : tie.Need-slice-aggregate-expand-2
 slice-aggregate-expand-2 c = search needs
 
--- src/keyed.rt:34:5
 expand-requires-2 : tie.Need-expand-requires-2
 expand-requires-2 c κs = (key-sizes _ _ (c .before .before .before .before .before .before .before .before .before .before .pre .0) .0, search needs)
 
--- src/keyed.rt:35:13
 add-n : tie.Need-add-n
 add-n c = search needs
 
--- src/keyed.rt:36:14
 slice-aggregate-seal : tie.Need-slice-aggregate-seal
 slice-aggregate-seal c = search needs
 
--- src/keyed.rt:36:22
 slice-aggregate-seal-2 : tie.Need-slice-aggregate-seal-2
 slice-aggregate-seal-2 c = search needs
 
--- src/keyed.rt:36:52
 slice-relend-prefix-seal : tie.Need-slice-relend-prefix-seal
 slice-relend-prefix-seal c = search needs
 
--- src/keyed.rt:36:52
 slice-aggregate-seal-3 : tie.Need-slice-aggregate-seal-3
 slice-aggregate-seal-3 c = sym (room c)
 
--- src/keyed.rt:36:5
 seal-requires : tie.Need-seal-requires
 seal-requires c κs =
     let k = c .before .before .before .before .before .before .before .before .before .before in
     let p = k .before .before .before .before .before .before .pre .1 in
     (k .table .ensures, ((search needs, search needs), (room c, omega (arith, p .0))))
 
--- src/keyed.rt:18:1
 same-length : tie.Need-same-length
 same-length c = search needs
 
--- src/keyed.rt:18:1
 returns : tie.Need-returns
 returns c =
     let k = c .before .before .before .before .before .before .before .before in

@@ -16,11 +16,6 @@ use Rattle.names.proofs.Placing.{placed-filled}
 use borrow.Author.Needs.{needs}
 use Rattle.names.proofs.path.dir_path.Statement.{statement}
 use Rattle.names.proofs.path.dir_path.Tie as tie
-use Rattle.names.proofs.path.dir_path.Reads as reads
-use Rattle.names.proofs.path.dir_path.Lts as lts
-use Rattle.names.proofs.checks.id_right.Reads as id-right-reads
-use Rattle.names.proofs.checks.keys_right.Reads as keys-right-reads
-use Rattle.names.proofs.path.write_path.Reads as write-path-reads
 
 keys : (c : tie.Else1) →
     let x = c .before .before .before .before .before .before .args in
@@ -30,11 +25,9 @@ keys c = sym (c .before .keys-right .ensures) ∙ not-false _ (c .if1 .left)
 right : (c : tie.Else2) → idRight (c .before .before .before .before .before .before .before .before .args .dir-id .now) ≡ true
 right c = sym (c .before .id-right .ensures) ∙ not-false _ (c .if2 .left)
 
--- src/path.rt:52:9
 keys-right-requires : tie.Need-keys-right-requires
 keys-right-requires c κs = search needs
 
--- src/path.rt:53:9
 returns : tie.Need-returns
 unfolding dirPathRows
 returns c =
@@ -42,11 +35,9 @@ returns c =
     let exact = name-rows-exactly (x .enc .now) (x .mac .now) (x .dir-id .now) .0 (x .out .now) in
     sym (exact .0 0 (omega arith) .1 (ap not (sym (c .before .keys-right .ensures)) ∙ c .if1 .taken))
 
--- src/path.rt:55:9
 id-right-requires : tie.Need-id-right-requires
 id-right-requires c κs = search needs
 
--- src/path.rt:56:9
 returns-2 : tie.Need-returns-2
 unfolding dirPathRows
 returns-2 c =
@@ -54,7 +45,6 @@ returns-2 c =
     let exact = name-rows-exactly (x .enc .now) (x .mac .now) (x .dir-id .now) .0 (x .out .now) in
     sym (exact .0 1 (omega arith) .1 (ap not (keys (c .before .before)), ap not (sym (c .before .id-right .ensures)) ∙ c .if2 .taken))
 
--- src/path.rt:59:9
 returns-3 : tie.Need-returns-3
 unfolding dirPathRows
 returns-3 c =
@@ -62,15 +52,12 @@ returns-3 c =
     let exact = name-rows-exactly (x .enc .now) (x .mac .now) (x .dir-id .now) .0 (x .out .now) in
     sym (exact .0 2 (omega arith) .1 (ap not (keys (c .before .before .before)), (ap not (right (c .before)), lt-ltb (length (x .out .now)) pathLength (c .if3 .taken))))
 
--- src/path.rt:61:5
 write-path-requires : tie.Need-write-path-requires
 write-path-requires c κs = (keys (c .before .before .before .before), (id-size (c .before .before .before .before .before .before .before .before .before .before .args .dir-id .now) (right (c .before .before)), c .before .if3 .left))
 
--- src/path.rt:49:1
 same-length : tie.Need-same-length
 same-length c = search needs
 
--- src/path.rt:49:1
 returns-4 : tie.Need-returns-4
 unfolding dirPathRows
 returns-4 c =

@@ -17,11 +17,6 @@ use Rattle.names.proofs.Placing.{front}
 use borrow.Author.Needs.{needs}
 use Rattle.names.proofs.path.id_hash.Statement.{statement}
 use Rattle.names.proofs.path.id_hash.Tie as tie
-use Rattle.names.proofs.path.id_hash.Reads as reads
-use Rattle.names.proofs.path.id_hash.Lts as lts
-use Rattle.encoding.proofs.base32.encode.Reads as encode-reads
-use Rattle.names.proofs.keyed.seal_under.Reads as seal-under-reads
-use Rattle.sha1.proofs.digest.Reads as digest-reads
 
 sealed-length : (enc mac id : List ℕ) → length (sealedId enc mac id) ≡ length id + 16
 unfolding sealedId
@@ -38,43 +33,33 @@ sealed c =
     let s = sealedId (x .enc .now) (x .mac .now) (x .id .now) in
     ap (take n) (c .before .before .seal-under .ensures) ∙ front s (replicate 52 0) n (sealed-length (x .enc .now) (x .mac .now) (x .id .now))
 
--- src/path.rt:28:41
 slice-aggregate-seal-under : tie.Need-slice-aggregate-seal-under
 slice-aggregate-seal-under c = search needs
 
--- src/path.rt:28:5
 seal-under-requires : tie.Need-seal-under-requires
 seal-under-requires c κs = search needs
 
--- src/path.rt:29:13
 add-n : tie.Need-add-n
 add-n c = search needs
 
--- src/path.rt:31:28
 array-share-prefix-sealed : tie.Need-array-share-prefix-sealed
 array-share-prefix-sealed c = search needs
 
--- src/path.rt:31:28
 slice-aggregate-digest : tie.Need-slice-aggregate-digest
 slice-aggregate-digest c = let x = c .before .before .before .before .before .before .before .args in sym (ap length (sealed c) ∙ sealed-length (x .enc .now) (x .mac .now) (x .id .now))
 
--- src/path.rt:31:21
 digest-requires : tie.Need-digest-requires
 digest-requires c κs = search needs
 
--- src/path.rt:31:20
 slice-aggregate-encode : tie.Need-slice-aggregate-encode
 slice-aggregate-encode c = search needs
 
--- src/path.rt:31:43
 slice-aggregate-encode-2 : tie.Need-slice-aggregate-encode-2
 slice-aggregate-encode-2 c = search needs
 
--- src/path.rt:31:5
 encode-requires : tie.Need-encode-requires
 encode-requires c κs = search needs
 
--- src/path.rt:22:1
 returns : tie.Need-returns
 unfolding idHash
 returns c =

@@ -14,10 +14,6 @@ use Rattle.names.proofs.Placing.{placed-after}
 use borrow.Author.Needs.{needs}
 use Rattle.names.proofs.path.write_path.Statement.{statement}
 use Rattle.names.proofs.path.write_path.Tie as tie
-use Rattle.names.proofs.path.write_path.Reads as reads
-use Rattle.names.proofs.path.write_path.Lts as lts
-use Rattle.names.proofs.path.id_hash.Reads as id-hash-reads
-use Rattle.octets.proofs.slice.copy_at.Reads as copy-at-reads
 
 text-length : (c : tie.After-id-hash) → length (c .id-hash .result) ≡ 32
 text-length c = let x = c .before .before .before .before .before .args in ap length (c .id-hash .ensures) ∙ length-idHash (x .enc .now) (x .mac .now) (x .id .now)
@@ -32,62 +28,48 @@ joined t d n e f g h =
     h ∙ ap₂ (λ (s o : List ℕ). placed s 6 o) (part-rest t 32 2 n) b
     ∙ placed-after (dataFolder ++ take 2 t ++ slash) (drop 2 t) d 6 (omega (arith, length-append (dataFolder ++ take 2 t) slash, length-append dataFolder (take 2 t)))
 
--- src/path.rt:41:16
 id-hash-requires : tie.Need-id-hash-requires
 id-hash-requires c κs = search needs
 
--- src/path.rt:42:13
 slice-aggregate-copy-at : tie.Need-slice-aggregate-copy-at
 slice-aggregate-copy-at c = search needs
 
--- src/path.rt:42:5
 copy-at-requires : tie.Need-copy-at-requires
 copy-at-requires c κs = search needs
 
--- src/path.rt:43:13
 array-share-prefix-text : tie.Need-array-share-prefix-text
 array-share-prefix-text c = search needs
 
--- src/path.rt:43:13
 slice-aggregate-copy-at-2 : tie.Need-slice-aggregate-copy-at-2
 slice-aggregate-copy-at-2 c = sym (length-take-le 2 (c .before .before .before .before .before .before .id-hash .result) (omega (arith, text-length (c .before .before .before .before .before .before))))
 
--- src/path.rt:43:5
 copy-at-requires-2 : tie.Need-copy-at-requires-2
 copy-at-requires-2 c κs =
     let t = length-take-le 2 (c .before .before .before .before .before .before .before .id-hash .result) (omega (arith, text-length (c .before .before .before .before .before .before .before))) in
     let p = c .before .before .before .before .before .before .before .before .before .before .before .before .pre .1 .1 in
     omega (arith, t, c .before .before .before .out .given, p)
 
--- src/path.rt:44:13
 slice-aggregate-copy-at-3 : tie.Need-slice-aggregate-copy-at-3
 slice-aggregate-copy-at-3 c = search needs
 
--- src/path.rt:44:5
 copy-at-requires-3 : tie.Need-copy-at-requires-3
 copy-at-requires-3 c κs = search needs
 
--- src/path.rt:45:13
 sub-copy-at : tie.Need-sub-copy-at
 sub-copy-at c = search needs
 
--- src/path.rt:45:13
 part-copy-at-start : tie.Need-part-copy-at-start
 part-copy-at-start c = search needs
 
--- src/path.rt:45:13
 part-copy-at-end : tie.Need-part-copy-at-end
 part-copy-at-end c = search needs
 
--- src/path.rt:45:5
 copy-at-requires-4 : tie.Need-copy-at-requires-4
 copy-at-requires-4 c κs = search needs
 
--- src/path.rt:36:1
 same-length : tie.Need-same-length
 same-length c = search needs
 
--- src/path.rt:36:1
 returns : tie.Need-returns
 unfolding path
 returns c =

@@ -1,6 +1,6 @@
 -- `is_hash`: the hash name is made and compared.
 -- Assumes nothing.
-use mathlib.Core.Path.{_≡_, sym, ap, _∙_}
+use mathlib.Core.Path.{sym, ap, _∙_}
 use lib.ListN.{replicate}
 use Rattle.octets.specs.Bytes.{same}
 use Rattle.octets.proofs.Lists.{placed-all}
@@ -9,28 +9,19 @@ use Rattle.name_spec.proofs.Texts.{length-hash}
 use borrow.Author.Needs.{needs}
 use Rattle.names.proofs.texts.is_hash.Statement.{statement}
 use Rattle.names.proofs.texts.is_hash.Tie as tie
-use Rattle.names.proofs.texts.is_hash.Reads as reads
-use Rattle.names.proofs.texts.is_hash.Lts as lts
-use Rattle.names.proofs.texts.write_hash.Reads as write-hash-reads
-use Rattle.octets.proofs.slice.equal.Reads as equal-reads
 
--- src/texts.rt:45:22
 slice-aggregate-write-hash : tie.Need-slice-aggregate-write-hash
 slice-aggregate-write-hash c = search needs
 
--- src/texts.rt:45:5
 write-hash-requires : tie.Need-write-hash-requires
 write-hash-requires c κs = search needs
 
--- src/texts.rt:46:19
 slice-aggregate-equal : tie.Need-slice-aggregate-equal
 slice-aggregate-equal c = search needs
 
--- src/texts.rt:46:5
 equal-requires : tie.Need-equal-requires
 equal-requires c κs = search needs
 
--- src/texts.rt:41:1
 returns : tie.Need-returns
 returns c =
     let x = c .before .before .before .before .before .before .before .args in

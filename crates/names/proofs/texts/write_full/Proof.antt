@@ -15,12 +15,6 @@ use Rattle.names.proofs.Placing.{front, placed-after}
 use borrow.Author.Needs.{needs}
 use Rattle.names.proofs.texts.write_full.Statement.{statement}
 use Rattle.names.proofs.texts.write_full.Tie as tie
-use Rattle.names.proofs.texts.write_full.Reads as reads
-use Rattle.names.proofs.texts.write_full.Lts as lts
-use Rattle.encoding.proofs.base64url.encode.Reads as encode-reads
-use Rattle.encoding.proofs.base64url.encoded_length.Reads as encoded-length-reads
-use Rattle.names.proofs.keyed.seal_under.Reads as seal-under-reads
-use Rattle.octets.proofs.slice.copy_at.Reads as copy-at-reads
 
 -- What is encoded.
 sealed : (c : tie.After-sealed3) →
@@ -33,27 +27,21 @@ sealed c =
     let s = sealedName (x .enc .now) (x .mac .now) (x .id .now) (x .name .now) in
     ap (take n) (c .before .before .seal-under .ensures) ∙ front s (replicate 271 0) n (length-sealed (x .enc .now) (x .mac .now) (x .id .now) (x .name .now))
 
--- src/texts.rt:25:42
 slice-aggregate-seal-under : tie.Need-slice-aggregate-seal-under
 slice-aggregate-seal-under c = search needs
 
--- src/texts.rt:25:5
 seal-under-requires : tie.Need-seal-under-requires
 seal-under-requires c κs = search needs
 
--- src/texts.rt:26:13
 add-m : tie.Need-add-m
 add-m c = search needs
 
--- src/texts.rt:27:23
 array-share-prefix-sealed : tie.Need-array-share-prefix-sealed
 array-share-prefix-sealed c = search needs
 
--- src/texts.rt:27:23
 slice-aggregate-encode : tie.Need-slice-aggregate-encode
 slice-aggregate-encode c = let x = c .before .before .before .before .before .before .before .before .before .args in sym (ap length (sealed c) ∙ length-sealed (x .enc .now) (x .mac .now) (x .id .now) (x .name .now))
 
--- src/texts.rt:27:5
 encode-requires : tie.Need-encode-requires
 encode-requires c κs =
     let x = c .before .before .before .before .before .before .before .before .before .before .args in
@@ -61,23 +49,18 @@ encode-requires c κs =
     let p = c .before .before .before .before .before .before .before .before .before .before .pre .1 .1 in
     omega (arith, ap (base64url.encodedLength true) e, p)
 
--- src/texts.rt:28:13
 slice-aggregate-copy-at : tie.Need-slice-aggregate-copy-at
 slice-aggregate-copy-at c = search needs
 
--- src/texts.rt:28:27
 encoded-length-requires : tie.Need-encoded-length-requires
 encoded-length-requires c κs = search needs
 
--- src/texts.rt:28:5
 copy-at-requires : tie.Need-copy-at-requires
 copy-at-requires c κs = search needs
 
--- src/texts.rt:19:1
 same-length : tie.Need-same-length
 same-length c = search needs
 
--- src/texts.rt:19:1
 returns : tie.Need-returns
 unfolding fullName
 returns c =

@@ -16,41 +16,29 @@ use Rattle.names.proofs.Placing.{placed-after}
 use borrow.Author.Needs.{needs}
 use Rattle.names.proofs.texts.write_hash.Statement.{statement}
 use Rattle.names.proofs.texts.write_hash.Tie as tie
-use Rattle.names.proofs.texts.write_hash.Reads as reads
-use Rattle.names.proofs.texts.write_hash.Lts as lts
-use Rattle.encoding.proofs.base64url.encode.Reads as encode-reads
-use Rattle.octets.proofs.slice.copy_at.Reads as copy-at-reads
-use Rattle.sha1.proofs.digest.Reads as digest-reads
 
 digest-length : (c : tie.After-digest) → length (c .digest .result) ≡ 20
 digest-length c = ap length (c .digest .ensures) ∙ twenty-bytes (c .before .before .before .args .full .now) .0
 
--- src/texts.rt:36:24
 digest-requires : tie.Need-digest-requires
 digest-requires c κs = search needs
 
--- src/texts.rt:36:23
 slice-aggregate-encode : tie.Need-slice-aggregate-encode
 slice-aggregate-encode c = search needs
 
--- src/texts.rt:36:5
 encode-requires : tie.Need-encode-requires
 unfolding base64url.encodedLength
 encode-requires c κs = let n = digest-length (c .before .before) in omega (arith, n, c .before .before .before .before .before .pre)
 
--- src/texts.rt:37:13
 slice-aggregate-copy-at : tie.Need-slice-aggregate-copy-at
 slice-aggregate-copy-at c = search needs
 
--- src/texts.rt:37:5
 copy-at-requires : tie.Need-copy-at-requires
 copy-at-requires c κs = search needs
 
--- src/texts.rt:32:1
 same-length : tie.Need-same-length
 same-length c = search needs
 
--- src/texts.rt:32:1
 returns : tie.Need-returns
 unfolding hashName base64url.encodedLength
 returns c =

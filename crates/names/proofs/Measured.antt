@@ -1,0 +1,77 @@
+-- The length of the name in a text, with 0 for a text whose form is broken.
+-- Assumes nothing.
+use Prim.Native.Nat.{ℕ, _-_, _≤_, _<_}
+use mathlib.Core.Path.{_≡_, refl, sym, ap, _∙_}
+use mathlib.Core.Bool.{Bool, true, false, cond}
+use mathlib.Core.List.{List}
+use native.Mathlib.Omega.{arith}
+use lib.ListN.{length, drop, length-drop}
+use borrow.Author.Tests.{lt-leb, le-leb}
+use Rattle.octets.specs.Bytes.{same}
+use Rattle.octets.proofs.Equality.{same-not}
+use Rattle.encoding.specs.Base64url.{accepted, decoded}
+use Rattle.encoding.specs.Measures.{answer, measureOf}
+use Rattle.encoding.specs.declared.base64url.Measure.the-variants.{Refused}
+use Rattle.name_spec.specs.Names.{fullEnd, stem, sealedOf, nameLength, textRight}
+use Rattle.name_spec.proofs.Texts.{text-facts}
+
+-- A text that the check of base64url refuses is not accepted.
+pub refused-text : (p : Bool) (t : List ℕ) → measureOf p t ≡ Refused → accepted p t ≡ false
+unfolding measureOf
+refused-text p t e = go (accepted p t) e
+  where
+    go : (b : Bool) → answer b (length (decoded p t)) ≡ Refused → b ≡ false
+    go true e = let z : _≡_ {A = ℕ} 0 1 = cc in absurd (omega arith)
+    go false e = refl
+
+module _ (t : List ℕ) where
+  -- r is the length, or 0.
+  abbrev pub Measures : ℕ → Type 0
+  Measures r = r ≡ cond (textRight t) (nameLength t) 0
+
+  broken : textRight t ≡ false → Measures 0
+  broken e = rw e
+
+  pub too-short : length t < 4 → Measures 0
+  unfolding textRight
+  too-short h =
+      broken (rw (same-not (drop (length t - 4) t) fullEnd (λ e. absurd (omega (arith, ap length e, length-drop (length t - 4) t, h)))))
+
+  pub other-end : same (drop (length t - 4) t) fullEnd ≡ false → Measures 0
+  unfolding textRight
+  other-end e = broken (rw e)
+
+  module _ (ends : same (drop (length t - 4) t) fullEnd ≡ true) where
+    pub not-accepted : accepted true (stem t) ≡ false → Measures 0
+    unfolding textRight
+    not-accepted e = broken (rw (ends, e))
+
+    -- The stem stands for m bytes.
+    module _ (m : ℕ) (ok : (accepted true (stem t) ≡ true) × (length (decoded true (stem t)) ≡ m)) where
+      pub too-few : m < 17 → Measures 0
+      unfolding textRight sealedOf
+      too-few h = broken (rw (ends, ok .0, ok .1, lt-leb 17 m h))
+
+      pub too-many : 17 ≤ m → 271 < m → Measures 0
+      unfolding textRight sealedOf
+      too-many h k = broken (rw (ends, ok .0, ok .1, le-leb 17 m h, lt-leb m 271 k))
+
+      pub in-form : 17 ≤ m → m ≤ 271 → Measures (m - 16)
+      unfolding textRight nameLength sealedOf
+      in-form h k = rw (ends, ok .0, ok .1, le-leb 17 m h, le-leb m 271 k)
+
+  -- What the length tells.
+  pub form-broken : (r : ℕ) → Measures r → r ≡ 0 → textRight t ≡ false
+  unfolding nameLength
+  form-broken r e z = go (textRight t) refl (sym e ∙ z)
+    where
+      go : (b : Bool) → textRight t ≡ b → cond b (nameLength t) 0 ≡ 0 → b ≡ false
+      go true right x = absurd (let f = text-facts t right .low in omega (arith, f, x))
+      go false right x = refl
+
+  pub form-right : (r : ℕ) → Measures r → (r ≡ 0 → ⊥) → (textRight t ≡ true) × (r ≡ nameLength t)
+  form-right r e n = go (textRight t) e
+    where
+      go : (b : Bool) → r ≡ cond b (nameLength t) 0 → (b ≡ true) × (r ≡ nameLength t)
+      go true x = (refl, x)
+      go false x = absurd (n x)

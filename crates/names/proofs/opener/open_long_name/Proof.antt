@@ -1,0 +1,169 @@
+-- `open_long_name`: the rows in order, and the name.
+-- Assumes nothing.
+use Prim.Native.Nat.{ℕ}
+use mathlib.Core.Path.{_≡_, sym, ap, ap₂, _∙_}
+use mathlib.Core.Bool.{Bool, true, false, not, _||_, cond}
+use mathlib.Core.List.{List, [], _∷_}
+use native.Mathlib.Omega.{arith}
+use lib.Dec.{ltb}
+use lib.ListN.{length}
+use borrow.Author.Tests.{not-true, not-false, lt-ltb, le-ltb}
+use Rattle.octets.specs.Bytes.{placed, same}
+use Rattle.octets.specs.Rows.{done, refused, ended}
+use Rattle.siv_gcm.specs.SivGcm.{masterKeysRight}
+use Rattle.name_spec.specs.Names.{idRight, hashName, short, textRight, nameLength, nameOf}
+use Rattle.name_spec.specs.Calls.{openLongNameRows}
+use Rattle.name_spec.proofs.Texts.{length-name}
+use Rattle.name_spec.proofs.Ends.{name-rows-exactly}
+use Rattle.names.proofs.Placing.{placed-filled}
+use Rattle.names.proofs.Measured.{form-broken, form-right}
+use borrow.Author.Needs.{needs}
+use Rattle.names.proofs.opener.open_long_name.Statement.{statement}
+use Rattle.names.proofs.opener.open_long_name.Tie as tie
+
+keys : (c : tie.Else1) → masterKeysRight (c .before .before .before .before .before .before .before .before .args .enc .now) (c .before .before .before .before .before .before .before .before .args .mac .now) ≡ true
+keys c = sym (c .before .keys-right .ensures) ∙ not-false _ (c .if1 .left)
+
+right : (c : tie.Else2) → idRight (c .before .before .before .before .before .before .before .before .before .before .args .dir-id .now) ≡ true
+right c = sym (c .before .id-right .ensures) ∙ not-false _ (c .if2 .left)
+
+form : (c : tie.Else3) →
+    let t = c .before .before .before .before .before .before .before .before .before .before .before .before .args .full .now in
+    (textRight t ≡ true) × (c .before .name-length .result ≡ nameLength t)
+form c = form-right (c .before .before .before .before .before .before .before .before .before .before .before .before .args .full .now) _ (c .before .name-length .ensures) (c .if3 .left)
+
+roomy : (c : tie.Else4) →
+    let x = c .before .before .before .before .before .before .before .before .before .before .before .before .before .args in
+    ltb (length (x .out .now)) (nameLength (x .full .now)) ≡ false
+roomy c =
+    let x = c .before .before .before .before .before .before .before .before .before .before .before .before .before .args in
+    let m = form (c .before) .1 in
+    le-ltb (length (x .out .now)) (nameLength (x .full .now)) (omega (arith, m, c .if4 .left))
+
+long : (c : tie.Else5) → short (length (c .before .before .before .before .before .before .before .before .before .before .before .before .before .before .before .args .full .now)) ≡ false
+long c = sym (c .before .short .ensures) ∙ c .if5 .left
+
+pair : (c : tie.Else6) →
+    let x = c .before .before .before .before .before .before .before .before .before .before .before .before .before .before .before .before .before .args in
+    (short (length (x .full .now)) || not (same (x .stored .now) (hashName (x .full .now)))) ≡ false
+pair c = ap₂ (λ (a b : Bool). a || not b) (long (c .before .before)) (sym (c .before .is-hash .ensures) ∙ not-false _ (c .if6 .left))
+
+keys-right-requires : tie.Need-keys-right-requires
+keys-right-requires c κs = search needs
+
+returns : tie.Need-returns
+unfolding openLongNameRows
+returns c =
+    let x = c .before .before .before .before .before .before .before .before .args in
+    let exact = name-rows-exactly (x .enc .now) (x .mac .now) (x .dir-id .now) .3 (x .stored .now) (x .full .now) (x .out .now) in
+    sym (exact .0 0 (omega arith) .1 (ap not (sym (c .before .keys-right .ensures)) ∙ c .if1 .taken))
+
+id-right-requires : tie.Need-id-right-requires
+id-right-requires c κs = search needs
+
+returns-2 : tie.Need-returns-2
+unfolding openLongNameRows
+returns-2 c =
+    let x = c .before .before .before .before .before .before .before .before .before .before .args in
+    let exact = name-rows-exactly (x .enc .now) (x .mac .now) (x .dir-id .now) .3 (x .stored .now) (x .full .now) (x .out .now) in
+    sym (exact .0 1 (omega arith) .1 (ap not (keys (c .before .before)), ap not (sym (c .before .id-right .ensures)) ∙ c .if2 .taken))
+
+name-length-requires : tie.Need-name-length-requires
+name-length-requires c κs = search needs
+
+returns-3 : tie.Need-returns-3
+unfolding openLongNameRows
+returns-3 c =
+    let x = c .before .before .before .before .before .before .before .before .before .before .before .before .args in
+    let exact = name-rows-exactly (x .enc .now) (x .mac .now) (x .dir-id .now) .3 (x .stored .now) (x .full .now) (x .out .now) in
+    let f = form-broken (x .full .now) _ (c .before .name-length .ensures) (c .if3 .taken) in
+    sym (exact .0 2 (omega arith) .1 (ap not (keys (c .before .before .before .before)), (ap not (right (c .before .before)), ap not f)))
+
+returns-4 : tie.Need-returns-4
+unfolding openLongNameRows
+returns-4 c =
+    let k = c .before in
+    let x = k .before .before .before .before .before .before .before .before .before .before .before .before .args in
+    let exact = name-rows-exactly (x .enc .now) (x .mac .now) (x .dir-id .now) .3 (x .stored .now) (x .full .now) (x .out .now) in
+    let m = form k .1 in
+    sym (exact .0 3 (omega arith) .1 (ap not (keys (k .before .before .before .before)), (ap not (right (k .before .before)), (ap not (form k .0), lt-ltb (length (x .out .now)) (nameLength (x .full .now)) (omega (arith, m, c .if4 .taken))))))
+
+short-requires : tie.Need-short-requires
+short-requires c κs = search needs
+
+returns-5 : tie.Need-returns-5
+unfolding openLongNameRows
+returns-5 c =
+    let k = c .before .before .before in
+    let x = k .before .before .before .before .before .before .before .before .before .before .before .before .args in
+    let exact = name-rows-exactly (x .enc .now) (x .mac .now) (x .dir-id .now) .3 (x .stored .now) (x .full .now) (x .out .now) in
+    let s = ap (λ (b : Bool). b || not (same (x .stored .now) (hashName (x .full .now)))) (sym (c .before .short .ensures) ∙ c .if5 .taken) in
+    sym (exact .0 4 (omega arith) .1 (ap not (keys (k .before .before .before .before)), (ap not (right (k .before .before)), (ap not (form k .0), (roomy (c .before .before), s)))))
+
+is-hash-requires : tie.Need-is-hash-requires
+is-hash-requires c κs = search needs
+
+returns-6 : tie.Need-returns-6
+unfolding openLongNameRows
+returns-6 c =
+    let k = c .before .before .before .before .before in
+    let x = k .before .before .before .before .before .before .before .before .before .before .before .before .args in
+    let exact = name-rows-exactly (x .enc .now) (x .mac .now) (x .dir-id .now) .3 (x .stored .now) (x .full .now) (x .out .now) in
+    let s = ap₂ (λ (a b : Bool). a || not b) (long (c .before .before)) (sym (c .before .is-hash .ensures) ∙ not-true _ (c .if6 .taken)) in
+    sym (exact .0 4 (omega arith) .1 (ap not (keys (k .before .before .before .before)), (ap not (right (k .before .before)), (ap not (form k .0), (roomy (c .before .before .before .before), s)))))
+
+open-text-requires : tie.Need-open-text-requires
+open-text-requires c κs = let k = c .before .before .before .before .before .before in (keys (k .before .before .before .before), (form k .0, form k .1, c .before .before .before .before .before .if4 .left))
+
+same-length : tie.Need-same-length
+same-length c = search needs
+
+returns-7 : tie.Need-returns-7
+unfolding openLongNameRows
+returns-7 c =
+    let k = c .before .before .before .before .before .before .before .before .before .before in
+    let x = k .before .before .before .before .before .before .before .before .before .before .before .before .args in
+    let exact = name-rows-exactly (x .enc .now) (x .mac .now) (x .dir-id .now) .3 (x .stored .now) (x .full .now) (x .out .now) in
+    let t = x .full .now in
+    let u = c .before .before .before .open-text in
+    let no = not-true _ (c .if7 .taken) in
+    ap (ended (refused 12)) (u .ensures .1 ∙ ap (λ (b : Bool). cond b (placed (nameOf (x .enc .now) t) 0 (x .out .now)) (x .out .now)) no)
+    ∙ sym (exact .0 5 (omega arith) .1 (ap not (keys (k .before .before .before .before)), (ap not (right (k .before .before)), (ap not (form k .0), (roomy (c .before .before .before .before .before .before .before .before .before), (pair (c .before .before .before .before .before), ap not (sym (u .ensures .0) ∙ no)))))))
+
+same-length-2 : tie.Need-same-length-2
+same-length-2 c = search needs
+
+returns-8 : tie.Need-returns-8
+unfolding openLongNameRows
+returns-8 c =
+    let k = c .before .before .before .before .before .before .before .before .before .before in
+    let x = k .before .before .before .before .before .before .before .before .before .before .before .before .args in
+    let exact = name-rows-exactly (x .enc .now) (x .mac .now) (x .dir-id .now) .3 (x .stored .now) (x .full .now) (x .out .now) in
+    let t = x .full .now in
+    let u = c .before .before .before .open-text in
+    let ok = not-false _ (c .if7 .left) in
+    ap₂ (λ (n : ℕ) (l : List ℕ). ended (done (n ∷ [])) l) (form k .1)
+    (u .ensures .1 ∙ ap (λ (b : Bool). cond b (placed (nameOf (x .enc .now) t) 0 (x .out .now)) (x .out .now)) ok
+    ∙ placed-filled (nameOf (x .enc .now) t) (x .out .now) (nameLength t) (length-name (x .enc .now) t))
+    ∙ sym (exact .1 .1 (ap not (keys (k .before .before .before .before)), (ap not (right (k .before .before)), (ap not (form k .0), (roomy (c .before .before .before .before .before .before .before .before .before), (pair (c .before .before .before .before .before), (ap not (sym (u .ensures .0) ∙ ok), tt)))))))
+
+pub open-long-name-spec : {M : Type 1} → statement M
+open-long-name-spec =
+    tie.close
+    (tie.spec
+    keys-right-requires
+    returns
+    id-right-requires
+    returns-2
+    name-length-requires
+    returns-3
+    returns-4
+    short-requires
+    returns-5
+    is-hash-requires
+    returns-6
+    open-text-requires
+    same-length
+    returns-7
+    same-length-2
+    returns-8)

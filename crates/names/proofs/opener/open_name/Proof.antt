@@ -1,0 +1,156 @@
+-- `open_name`: the rows in order, and the name.
+-- Assumes nothing.
+use Prim.Native.Nat.{ℕ}
+use mathlib.Core.Path.{_≡_, sym, ap, ap₂, _∙_}
+use mathlib.Core.Bool.{Bool, true, false, not, _||_, or-true, cond}
+use mathlib.Core.List.{List, [], _∷_}
+use native.Mathlib.Omega.{arith}
+use lib.Dec.{ltb}
+use lib.ListN.{length}
+use borrow.Author.Tests.{not-true, not-false, lt-ltb, le-ltb}
+use Rattle.octets.specs.Bytes.{placed}
+use Rattle.octets.specs.Rows.{done, refused, ended}
+use Rattle.siv_gcm.specs.SivGcm.{masterKeysRight}
+use Rattle.name_spec.specs.Names.{idRight, short, textRight, nameLength, nameOf}
+use Rattle.name_spec.specs.Calls.{openNameRows}
+use Rattle.name_spec.proofs.Texts.{length-name}
+use Rattle.name_spec.proofs.Ends.{name-rows-exactly}
+use Rattle.names.proofs.Placing.{placed-filled}
+use Rattle.names.proofs.Measured.{form-broken, form-right}
+use borrow.Author.Needs.{needs}
+use Rattle.names.proofs.opener.open_name.Statement.{statement}
+use Rattle.names.proofs.opener.open_name.Tie as tie
+
+keys : (c : tie.Else1) → masterKeysRight (c .before .before .before .before .before .before .before .args .enc .now) (c .before .before .before .before .before .before .before .args .mac .now) ≡ true
+keys c = sym (c .before .keys-right .ensures) ∙ not-false _ (c .if1 .left)
+
+right : (c : tie.Else2) → idRight (c .before .before .before .before .before .before .before .before .before .args .dir-id .now) ≡ true
+right c = sym (c .before .id-right .ensures) ∙ not-false _ (c .if2 .left)
+
+form : (c : tie.Else4) →
+    let t = c .before .before .before .before .before .before .before .before .before .before .before .before .before .args .stored .now in
+    (textRight t ≡ true) × (c .before .name-length .result ≡ nameLength t)
+form c = form-right (c .before .before .before .before .before .before .before .before .before .before .before .before .before .args .stored .now) _ (c .before .name-length .ensures) (c .if4 .left)
+
+text : (c : tie.Else4) →
+    let t = c .before .before .before .before .before .before .before .before .before .before .before .before .before .args .stored .now in
+    (not (textRight t) || not (short (length t))) ≡ false
+text c =
+    ap₂ (λ (a b : Bool). not a || not b) (form c .0) (sym (c .before .before .before .short .ensures) ∙ not-false _ (c .before .before .if3 .left))
+
+roomy : (c : tie.Else5) →
+    let x = c .before .before .before .before .before .before .before .before .before .before .before .before .before .before .args in
+    ltb (length (x .out .now)) (nameLength (x .stored .now)) ≡ false
+roomy c =
+    let x = c .before .before .before .before .before .before .before .before .before .before .before .before .before .before .args in
+    let m = form (c .before) .1 in
+    le-ltb (length (x .out .now)) (nameLength (x .stored .now)) (omega (arith, m, c .if5 .left))
+
+keys-right-requires : tie.Need-keys-right-requires
+keys-right-requires c κs = search needs
+
+returns : tie.Need-returns
+unfolding openNameRows
+returns c =
+    let x = c .before .before .before .before .before .before .before .args in
+    let exact = name-rows-exactly (x .enc .now) (x .mac .now) (x .dir-id .now) .2 (x .stored .now) (x .out .now) in
+    sym (exact .0 0 (omega arith) .1 (ap not (sym (c .before .keys-right .ensures)) ∙ c .if1 .taken))
+
+id-right-requires : tie.Need-id-right-requires
+id-right-requires c κs = search needs
+
+returns-2 : tie.Need-returns-2
+unfolding openNameRows
+returns-2 c =
+    let x = c .before .before .before .before .before .before .before .before .before .args in
+    let exact = name-rows-exactly (x .enc .now) (x .mac .now) (x .dir-id .now) .2 (x .stored .now) (x .out .now) in
+    sym (exact .0 1 (omega arith) .1 (ap not (keys (c .before .before)), ap not (sym (c .before .id-right .ensures)) ∙ c .if2 .taken))
+
+short-requires : tie.Need-short-requires
+short-requires c κs = search needs
+
+returns-3 : tie.Need-returns-3
+unfolding openNameRows
+returns-3 c =
+    let x = c .before .before .before .before .before .before .before .before .before .before .before .args in
+    let exact = name-rows-exactly (x .enc .now) (x .mac .now) (x .dir-id .now) .2 (x .stored .now) (x .out .now) in
+    let t = x .stored .now in
+    let s : short (length t) ≡ false = sym (c .before .short .ensures) ∙ not-true _ (c .if3 .taken) in
+    let f = ap (λ (b : Bool). not (textRight t) || not b) s ∙ or-true (not (textRight t)) in
+    sym (exact .0 2 (omega arith) .1 (ap not (keys (c .before .before .before .before)), (ap not (right (c .before .before)), f)))
+
+name-length-requires : tie.Need-name-length-requires
+name-length-requires c κs = search needs
+
+returns-4 : tie.Need-returns-4
+unfolding openNameRows
+returns-4 c =
+    let x = c .before .before .before .before .before .before .before .before .before .before .before .before .before .args in
+    let exact = name-rows-exactly (x .enc .now) (x .mac .now) (x .dir-id .now) .2 (x .stored .now) (x .out .now) in
+    let t = x .stored .now in
+    let f = ap (λ (b : Bool). not b || not (short (length t))) (form-broken t _ (c .before .name-length .ensures) (c .if4 .taken)) in
+    sym (exact .0 2 (omega arith) .1 (ap not (keys (c .before .before .before .before .before .before)), (ap not (right (c .before .before .before .before)), f)))
+
+returns-5 : tie.Need-returns-5
+unfolding openNameRows
+returns-5 c =
+    let k = c .before in
+    let x = k .before .before .before .before .before .before .before .before .before .before .before .before .before .args in
+    let exact = name-rows-exactly (x .enc .now) (x .mac .now) (x .dir-id .now) .2 (x .stored .now) (x .out .now) in
+    let t = x .stored .now in
+    let m = form k .1 in
+    sym (exact .0 3 (omega arith) .1 (ap not (keys (k .before .before .before .before .before .before)), (ap not (right (k .before .before .before .before)), (text k, lt-ltb (length (x .out .now)) (nameLength t) (omega (arith, m, c .if5 .taken))))))
+
+open-text-requires : tie.Need-open-text-requires
+open-text-requires c κs = let k = c .before .before in (keys (k .before .before .before .before .before .before), (form k .0, form k .1, c .before .if5 .left))
+
+same-length : tie.Need-same-length
+same-length c = search needs
+
+returns-6 : tie.Need-returns-6
+unfolding openNameRows
+returns-6 c =
+    let k = c .before .before .before .before .before .before in
+    let x = k .before .before .before .before .before .before .before .before .before .before .before .before .before .args in
+    let exact = name-rows-exactly (x .enc .now) (x .mac .now) (x .dir-id .now) .2 (x .stored .now) (x .out .now) in
+    let t = x .stored .now in
+    let u = c .before .before .before .open-text in
+    let no = not-true _ (c .if6 .taken) in
+    ap (ended (refused 12)) (u .ensures .1 ∙ ap (λ (b : Bool). cond b (placed (nameOf (x .enc .now) t) 0 (x .out .now)) (x .out .now)) no)
+    ∙ sym (exact .0 4 (omega arith) .1 (ap not (keys (k .before .before .before .before .before .before)), (ap not (right (k .before .before .before .before)), (text k, (roomy (c .before .before .before .before .before), ap not (sym (u .ensures .0) ∙ no))))))
+
+same-length-2 : tie.Need-same-length-2
+same-length-2 c = search needs
+
+returns-7 : tie.Need-returns-7
+unfolding openNameRows
+returns-7 c =
+    let k = c .before .before .before .before .before .before in
+    let x = k .before .before .before .before .before .before .before .before .before .before .before .before .before .args in
+    let exact = name-rows-exactly (x .enc .now) (x .mac .now) (x .dir-id .now) .2 (x .stored .now) (x .out .now) in
+    let t = x .stored .now in
+    let u = c .before .before .before .open-text in
+    let ok = not-false _ (c .if6 .left) in
+    ap₂ (λ (n : ℕ) (l : List ℕ). ended (done (n ∷ [])) l) (form k .1)
+    (u .ensures .1 ∙ ap (λ (b : Bool). cond b (placed (nameOf (x .enc .now) t) 0 (x .out .now)) (x .out .now)) ok
+    ∙ placed-filled (nameOf (x .enc .now) t) (x .out .now) (nameLength t) (length-name (x .enc .now) t))
+    ∙ sym (exact .1 .1 (ap not (keys (k .before .before .before .before .before .before)), (ap not (right (k .before .before .before .before)), (text k, (roomy (c .before .before .before .before .before), (ap not (sym (u .ensures .0) ∙ ok), tt))))))
+
+pub open-name-spec : {M : Type 1} → statement M
+open-name-spec =
+    tie.close
+    (tie.spec
+    keys-right-requires
+    returns
+    id-right-requires
+    returns-2
+    short-requires
+    returns-3
+    name-length-requires
+    returns-4
+    returns-5
+    open-text-requires
+    same-length
+    returns-6
+    same-length-2
+    returns-7)

@@ -1,0 +1,75 @@
+// Opening a name.
+use crate::checks::id_right;
+use crate::checks::keys_right;
+use crate::checks::name_length;
+use crate::checks::short;
+use crate::texts::is_hash;
+use crate::texts::open_text;
+use answer::Answer;
+use answer::Refusal;
+ghost use mathlib.Core.Path.{_≡_};
+ghost use Rattle.octets.specs.Rows.{ended};
+ghost use Rattle.answer.specs.Meaning.{meaning};
+ghost use Rattle.name_spec.specs.Calls.{openName, openLongName};
+
+/// Opens a name that is stored as it is, in the directory with this ID.
+pub fn open_name(enc: &[u8], mac: &[u8], dir_id: &[u8], stored: &[u8], out: &mut [u8]) -> Answer
+    ensures { λ r. ⌜ ended (meaning r) (now (out .exit)) ≡ openName (now (enc .entry)) (now (mac .entry)) (now («dir_id» .entry)) (now (stored .entry)) (now (out .entry)) ⌝ }
+{
+    if !keys_right(enc, mac) {
+        return Answer::Refused(Refusal::KeyOrNonceSize);
+    }
+    if !id_right(dir_id) {
+        return Answer::Refused(Refusal::DirectoryId);
+    }
+    if !short(stored.len()) {
+        return Answer::Refused(Refusal::Text);
+    }
+    let n = name_length(stored);
+    if n == 0 {
+        return Answer::Refused(Refusal::Text);
+    }
+    if out.len() < n {
+        return Answer::Refused(Refusal::Room);
+    }
+    if !open_text(enc, mac, dir_id, stored, n, out) {
+        return Answer::Refused(Refusal::SyntheticIv);
+    }
+    Answer::Done(n)
+}
+
+/// Opens a shortened name, in the directory with this ID: what is stored, and its full name.
+pub fn open_long_name(
+    enc: &[u8],
+    mac: &[u8],
+    dir_id: &[u8],
+    stored: &[u8],
+    full: &[u8],
+    out: &mut [u8],
+) -> Answer
+    ensures { λ r. ⌜ ended (meaning r) (now (out .exit)) ≡ openLongName (now (enc .entry)) (now (mac .entry)) (now («dir_id» .entry)) (now (stored .entry)) (now (full .entry)) (now (out .entry)) ⌝ }
+{
+    if !keys_right(enc, mac) {
+        return Answer::Refused(Refusal::KeyOrNonceSize);
+    }
+    if !id_right(dir_id) {
+        return Answer::Refused(Refusal::DirectoryId);
+    }
+    let n = name_length(full);
+    if n == 0 {
+        return Answer::Refused(Refusal::Text);
+    }
+    if out.len() < n {
+        return Answer::Refused(Refusal::Room);
+    }
+    if short(full.len()) {
+        return Answer::Refused(Refusal::HashName);
+    }
+    if !is_hash(stored, full) {
+        return Answer::Refused(Refusal::HashName);
+    }
+    if !open_text(enc, mac, dir_id, full, n, out) {
+        return Answer::Refused(Refusal::SyntheticIv);
+    }
+    Answer::Done(n)
+}

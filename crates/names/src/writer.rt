@@ -1,0 +1,52 @@
+// Writing a name.
+use crate::checks::id_right;
+use crate::checks::keys_right;
+use crate::checks::name_right;
+use crate::checks::short;
+use crate::texts::full_length;
+use crate::texts::write_full;
+use crate::texts::write_hash;
+use answer::NameAnswer;
+use answer::Refusal;
+ghost use mathlib.Core.Path.{_≡_};
+ghost use Rattle.answer.specs.Meaning.{nameMeaning};
+ghost use Rattle.name_spec.specs.Calls.{nameEnded, writeName};
+
+/// Writes what is stored for the name in the directory with this ID, and for a shortened name its full name to the second buffer.
+pub fn write_name(
+    enc: &[u8],
+    mac: &[u8],
+    dir_id: &[u8],
+    name: &[u8],
+    stored: &mut [u8],
+    full: &mut [u8],
+) -> NameAnswer
+    ensures { λ r. ⌜ nameEnded (nameMeaning r) (now (stored .exit)) (now (full .exit)) ≡ writeName (now (enc .entry)) (now (mac .entry)) (now («dir_id» .entry)) (now (name .entry)) (now (stored .entry)) (now (full .entry)) ⌝ }
+{
+    if !keys_right(enc, mac) {
+        return NameAnswer::Refused(Refusal::KeyOrNonceSize);
+    }
+    if !id_right(dir_id) {
+        return NameAnswer::Refused(Refusal::DirectoryId);
+    }
+    if !name_right(name) {
+        return NameAnswer::Refused(Refusal::NameSize);
+    }
+    let n = full_length(name.len());
+    if short(n) {
+        if stored.len() < n {
+            return NameAnswer::Refused(Refusal::Room);
+        }
+        write_full(enc, mac, dir_id, name, stored);
+        return NameAnswer::Plain(n);
+    }
+    if stored.len() < 32 {
+        return NameAnswer::Refused(Refusal::Room);
+    }
+    if full.len() < n {
+        return NameAnswer::Refused(Refusal::Room);
+    }
+    write_full(enc, mac, dir_id, name, full);
+    write_hash(&full[..n], stored);
+    NameAnswer::Shortened(32, n)
+}
