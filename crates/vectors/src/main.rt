@@ -1,5 +1,14 @@
-// Published vectors of the building blocks, a line each: what it prints is compared with the published values.
+// Published vectors of the building blocks, and values of the stock program's tests, a line each: what it prints is compared with
+// the published values.
+use content::chunk::open_chunk;
+use content::chunk::write_chunk;
+use content::header::open_header;
+use content::header::write_header;
+use file_read::open_file;
+use file_read::read_range;
+use file_write::write_file;
 use libc::STDOUT_FILENO;
+use names::path::dir_path;
 use primitives::authenticated::primitives_gcm_open;
 use primitives::authenticated::primitives_gcm_seal;
 use primitives::cipher::primitives_aes256;
@@ -93,6 +102,54 @@ fn text() {
     io::write_all(STDOUT_FILENO, b"\n");
 }
 
+// The stock program's header, under keys and a nonce of zeros, and the content key that it opens to.
+fn header() {
+    let zeros = [0u8; 32];
+    let nonce = [0u8; 12];
+    let mut header = [0u8; 68];
+    write_header(&zeros, &zeros, &nonce, &zeros, &mut header);
+    print(&header);
+    let mut key = [255u8; 32];
+    open_header(&zeros, &zeros, &header, &mut key);
+    print(&key);
+}
+
+// Its chunk, and what that opens to.
+fn chunk() {
+    let zeros = [0u8; 32];
+    let nonce = [0u8; 12];
+    let mut chunk = [0u8; 39];
+    write_chunk(&zeros, &nonce, 0, &nonce, b"hello world", &mut chunk);
+    print(&chunk);
+    let mut cleartext = [0u8; 11];
+    open_chunk(&zeros, &nonce, 0, &chunk, &mut cleartext);
+    print(&cleartext);
+}
+
+// The file of that header and that chunk, what it opens to, and its last five bytes.
+fn file() {
+    let zeros = [0u8; 32];
+    let nonce = [0u8; 12];
+    let text = b"hello world";
+    let mut file = [0u8; 107];
+    write_file(&zeros, &zeros, &nonce, &zeros, &nonce, text, &mut file);
+    print(&file);
+    let mut cleartext = [0u8; 11];
+    open_file(&zeros, &zeros, &file, &mut cleartext);
+    print(&cleartext);
+    let mut part = [0u8; 5];
+    read_range(&zeros, &zeros, &file, 6, 5, &mut part);
+    print(&part);
+}
+
+// The stock program's path of the root directory.
+fn path() {
+    let mut out = [0u8; 36];
+    dir_path(&[0x55u8; 32], &[0x77u8; 32], b"", &mut out);
+    io::write_all(STDOUT_FILENO, &out);
+    io::write_all(STDOUT_FILENO, b"\n");
+}
+
 fn main() {
     aes256();
     gcm();
@@ -100,4 +157,8 @@ fn main() {
     siv();
     sha1();
     text();
+    header();
+    chunk();
+    file();
+    path();
 }
