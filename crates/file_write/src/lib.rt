@@ -1,13 +1,13 @@
 // The file writer.
 mod chunks;
 mod nonces;
+
+use crate::chunks::write_chunks;
+use crate::nonces::repeats;
 use aes::key::expand;
 use answer::Answer;
 use answer::Refusal;
-use crate::chunks::write_chunks;
-use frame::chunks;
 use gcm::aead::subkey;
-use crate::nonces::repeats;
 use siv_gcm::header::seal_header;
 use siv_gcm::sizes::head_right;
 use siv_gcm::sizes::master_keys_right;
@@ -24,7 +24,7 @@ ghost use Rattle.siv_gcm.specs.SivGcm.{sivGcm, headWith, masterKeysRight, codec
 ghost use Rattle.answer.specs.Meaning.{meaning};
 ghost use Rattle.file_write.specs.Choices.{choice};
 
-// Have the keys and nonces their sizes, and is there a nonce for each chunk of n bytes of cleartext?
+// Do the keys and nonces have their sizes, and is there a nonce for each chunk of n bytes of cleartext?
 fn sizes_right(
     enc: &[u8],
     mac: &[u8],
@@ -41,10 +41,10 @@ fn sizes_right(
     if !head_right(header_nonce, key) {
         return false;
     }
-    nonces.len() == 12 * chunks(n)
+    nonces.len() == 12 * frame::chunks(n)
 }
 
-// Writes the file to out, which has just its length.
+// Writes the file to out, which has just its length: the header, and then the chunks. The MAC master key plays no part.
 fn seal_file(
     enc: &[u8],
     header_nonce: &[u8],
@@ -65,7 +65,7 @@ fn seal_file(
     write_chunks(&t, &w, h, header_nonce, nonces, cleartext, &mut out[68..]);
 }
 
-/// Writes the file of a cleartext to the front of out: the header and the chunks. `nonces` has 12 bytes for each chunk, in order.
+/// Writes the file of a cleartext to the front of out, and answers its length. `nonces` has 12 bytes for each chunk, in order.
 pub fn write_file(
     enc: &[u8],
     mac: &[u8],
@@ -84,7 +84,7 @@ pub fn write_file(
     if n > 16777216 {
         return Answer::Refused(Refusal::Length);
     }
-    let size = 68 + n + 28 * chunks(n);
+    let size = 68 + n + 28 * frame::chunks(n);
     if out.len() < size {
         return Answer::Refused(Refusal::Room);
     }

@@ -1,11 +1,11 @@
 -- `write_file`: the rows in order, and the file at the front of the buffer.
 -- Assumes nothing.
 use Prim.Native.Nat.{ℕ, _+_, _*_, _/_}
-use mathlib.Core.Path.{_≡_, refl, sym, ap, _∙_}
-use mathlib.Core.Bool.{true, false, _&&_}
-use mathlib.Core.List.{List, [], _∷_, _++_}
+use mathlib.Core.Path.{_≡_, sym, ap, _∙_}
+use mathlib.Core.Bool.{true, _&&_}
+use mathlib.Core.List.{[], _∷_, _++_}
 use native.Mathlib.Omega.{arith}
-use lib.ListN.{length, take, drop}
+use lib.ListN.{length, drop}
 use lib.Seq.{length-take-le}
 use lib.Dec.{eqb}
 use borrow.Author.Tests.{not-true, not-false}
@@ -18,13 +18,8 @@ use Rattle.file_write.proofs.Ends.{row-1, row-4, row-7, row-8, no-row, 
 use borrow.Author.Needs.{needs}
 use Rattle.file_write.proofs.write_file.Statement.{statement}
 use Rattle.file_write.proofs.write_file.Tie as tie
-use Rattle.file_write.proofs.write_file.Reads as reads
-use Rattle.file_write.proofs.write_file.Lts as lts
-use Rattle.file_write.proofs.nonces.repeats.Reads as repeats-reads
-use Rattle.file_write.proofs.seal_file.Reads as seal-file-reads
-use Rattle.file_write.proofs.sizes_right.Reads as sizes-right-reads
-use Rattle.frame.proofs.chunks.Reads as chunks-reads
 
+-- the cipher combo under the master keys, and the choice, of the call
 abbrev combo : tie.Start → Codec
 combo b = codec (b .args .enc .now) (b .args .mac .now)
 
@@ -55,81 +50,66 @@ again c =
     let e : chunks (length (x .cleartext .now)) ≡ length (x .nonces .now) / 12 = omega arith in
     ap (λ (m : ℕ). repeats 12 m (x .nonces .now)) e ∙ sym (c .repeats .ensures)
 
--- src/lib.rt:81:9
 sizes-right-requires : tie.Need-sizes-right-requires
 sizes-right-requires c κs = search needs
 
--- src/lib.rt:82:9
 returns : tie.Need-returns
-returns c = 
-    let x = c .before .before .before .before .before .before .before .before .before .args in
-    row-1 (codec (x .enc .now) (x .mac .now)) (choice (x .header-nonce .now) (x .key .now) (x .nonces .now) (x .cleartext .now)) (x .out .now) (sym (c .before .sizes-right .ensures) ∙ not-true _ (c .if1 .taken))
+returns c =
+    let b = c .before .before .before .before .before .before .before .before .before in
+    row-1 (combo b) (chosen b) (b .args .out .now) (sym (c .before .sizes-right .ensures) ∙ not-true _ (c .if1 .taken))
 
--- src/lib.rt:85:9
 returns-2 : tie.Need-returns-2
-returns-2 c = 
+returns-2 c =
     let b = c .before .before .before .before .before .before .before .before .before .before in
     row-4 (combo b) (chosen b) (b .args .out .now) (sizes (c .before)) (omega arith)
 
--- src/lib.rt:87:16
 add-size : tie.Need-add-size
 add-size c = search needs
 
--- src/lib.rt:87:30
 chunks-requires : tie.Need-chunks-requires
 chunks-requires c κs = search needs
 
--- src/lib.rt:87:25
 mul-size : tie.Need-mul-size
 mul-size c = search needs
 
--- src/lib.rt:87:16
 add-size-2 : tie.Need-add-size-2
 add-size-2 c = search needs
 
--- src/lib.rt:89:9
 returns-3 : tie.Need-returns-3
-returns-3 c = 
+returns-3 c =
     let b = c .before .before .before .before .before .before .before .before .before .before .before .before in
     let k = c .before .chunks .ensures in
     row-7 (combo b) (chosen b) (b .args .out .now) (sizes (c .before .before .before)) (omega arith) (omega arith)
 
--- src/lib.rt:91:8
 repeats-requires : tie.Need-repeats-requires
 repeats-requires c κs = search needs
 
--- src/lib.rt:92:9
 returns-4 : tie.Need-returns-4
-returns-4 c = 
+returns-4 c =
     let b = c .before .before .before .before .before .before .before .before .before .before .before .before .before .before in
     let k = c .before .before .before .chunks .ensures in
     row-8 (combo b) (chosen b) (b .args .out .now) (sizes (c .before .before .before .before .before)) (omega arith) (omega arith) (again (c .before) ∙ c .if4 .taken)
 
--- src/lib.rt:94:58
 slice-relend-prefix-seal-file : tie.Need-slice-relend-prefix-seal-file
 slice-relend-prefix-seal-file c = search needs
 
--- src/lib.rt:94:58
 slice-aggregate-seal-file : tie.Need-slice-aggregate-seal-file
-slice-aggregate-seal-file c = 
+slice-aggregate-seal-file c =
     let x = c .before .before .before .before .before .before .before .before .before .before .before .before .before .before .before .args in
     sym (length-take-le _ (x .out .now) (c .before .before .before .if3 .left))
 
--- src/lib.rt:94:5
 seal-file-requires : tie.Need-seal-file-requires
-seal-file-requires c κs = 
+seal-file-requires c κs =
     let x = c .before .before .before .before .before .before .before .before .before .before .before .before .before .before .before .args in
     let f = facts (c .before .before .before .before .before .before) in
     let k = c .before .before .before .before .chunks .ensures in
     ((f .0, f .1, f .2), (f .3, length-take-le _ (x .out .now) (c .before .before .before .if3 .left) ∙ omega arith))
 
--- src/lib.rt:69:1
 same-length : tie.Need-same-length
 same-length c = search needs
 
--- src/lib.rt:69:1
 returns-5 : tie.Need-returns-5
-returns-5 c = 
+returns-5 c =
     let t = c .before .before .before .before in
     let b = t .before .before .before .before .before .before .before .before .before .before .before .before .before .before in
     let out = b .args .out .now in
