@@ -16,9 +16,9 @@ use Rattle.siv_gcm.specs.SivGcm.{sivGcm, headWith, masterKeysRight}
 
 -- ---- the tests
 
-pub enc-size : (enc mac : List ℕ) → masterKeysRight enc mac ≡ true → length enc ≡ 32
+pub master-sizes : (enc mac : List ℕ) → masterKeysRight enc mac ≡ true → (length enc ≡ 32) × (length mac ≡ 32)
 unfolding masterKeysRight
-enc-size enc mac e = eqb-true _ _ (and-true (eqb (length enc) 32) (eqb (length mac) 32) e .0)
+master-sizes enc mac e = let p = and-true (eqb (length enc) 32) (eqb (length mac) 32) e in (eqb-true _ _ (p .0), eqb-true _ _ (p .1))
 
 pub head-sizes : (n k : List ℕ) → headRight sivGcm (headWith n k) ≡ true → (length n ≡ 12) × (length k ≡ 32)
 head-sizes n k e = let p = and-true (eqb (length n) 12) (eqb (length k) 32) e in (eqb-true _ _ (p .0), eqb-true _ _ (p .1))

@@ -5,6 +5,7 @@ use Prim.Native.Nat.{_+_, _≤_}
 use mathlib.Core.Path.{_≡_, sym, _∙_, ap, ap₂}
 use mathlib.Core.Bool.{Bool, true, false, not, _&&_}
 use mathlib.Core.List.{[], _∷_}
+use native.Mathlib.Omega.{arith}
 use borrow.Author.Tests.{not-true, not-false, eq-eqb, ne-eqb, lt-ltb, le-ltb}
 use lib.Dec.{leb, eqb, lit≤}
 use lib.ListN.{length, take}
@@ -96,7 +97,8 @@ seal-under-requires c κs =
     let k = c .before in
     let x = k .before .before .before .before .before .before .before .before .before .before .before .args in
     let h = head-sizes (x .«header-nonce» .now) (x .key .now) (head (k .before .before .before .before)) in
-    ((h .1, h .0, k .before .before .before .if2 .left), (within-sizes _ _ _ (clear (k .before)) .1, room k))
+    let n = k .before .before .before .if2 .left in
+    ((omega arith, omega arith, omega arith), (within-sizes _ _ _ (clear (k .before)) .1, room k))
 
 same-length : tie.Need-same-length
 same-length c = search needs

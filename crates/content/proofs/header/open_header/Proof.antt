@@ -5,6 +5,7 @@ use Prim.Native.Nat.{_≤_}
 use mathlib.Core.Path.{_≡_, sym, _∙_, ap}
 use mathlib.Core.Bool.{Bool, true, not, cond}
 use mathlib.Core.List.{[], _∷_}
+use native.Mathlib.Omega.{arith}
 use borrow.Author.Tests.{not-true, not-false, eq-eqb, ne-eqb, lt-ltb, le-ltb}
 use lib.Dec.{lit≤}
 use lib.ListN.{length, take}
@@ -13,7 +14,7 @@ use Rattle.octets.specs.Rows.{done, refused, ended}
 use Rattle.frame.specs.Single.{openHeaderRows}
 use Rattle.frame.proofs.Single.{single-rows-exactly}
 use Rattle.siv_gcm.specs.SivGcm.{headOf, masterKeysRight, codec}
-use Rattle.content.proofs.Calls.{enc-size, front-filled, front-kept}
+use Rattle.content.proofs.Calls.{master-sizes, front-filled, front-kept}
 use Rattle.content.proofs.header.open_header.Statement.{statement}
 use Rattle.content.proofs.header.open_header.Tie as tie
 
@@ -62,7 +63,8 @@ open-header-requires : tie.Need-open-header-requires
 open-header-requires c κs =
     let k = c .before .before .before in
     let x = k .before .before .before .before .before .before .before .before .args in
-    (c .before .before .table .ensures, (enc-size (x .enc .now) (x .mac .now) (keys (k .before .before)), k .before .if2 .left, room k))
+    let m = master-sizes (x .enc .now) (x .mac .now) (keys (k .before .before)) in
+    (c .before .before .table .ensures, (omega arith, k .before .if2 .left, room k))
 
 same-length : tie.Need-same-length
 same-length c = search needs

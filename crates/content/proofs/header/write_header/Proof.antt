@@ -5,6 +5,7 @@ use Prim.Native.Nat.{_≤_}
 use mathlib.Core.Path.{_≡_, sym, _∙_, ap, ap₂}
 use mathlib.Core.Bool.{Bool, true, not, _&&_}
 use mathlib.Core.List.{[], _∷_}
+use native.Mathlib.Omega.{arith}
 use borrow.Author.Tests.{not-true, not-false, lt-ltb, le-ltb}
 use lib.Dec.{lit≤}
 use lib.ListN.{length, take}
@@ -14,7 +15,7 @@ use Rattle.frame.specs.Frame.{headRight}
 use Rattle.frame.specs.Single.{writeHeaderRows}
 use Rattle.frame.proofs.Single.{single-rows-exactly}
 use Rattle.siv_gcm.specs.SivGcm.{sivGcm, headWith, headerOf, masterKeysRight, codec}
-use Rattle.content.proofs.Calls.{enc-size, head-sizes, front-filled}
+use Rattle.content.proofs.Calls.{master-sizes, head-sizes, front-filled}
 use Rattle.content.proofs.header.write_header.Statement.{statement}
 use Rattle.content.proofs.header.write_header.Tie as tie
 
@@ -75,7 +76,8 @@ seal-header-requires c κs =
     let k = c .before .before .before in
     let x = k .before .before .before .before .before .before .before .before .before .before .args in
     let s = head-sizes (x .nonce .now) (x .key .now) (head (k .before)) in
-    (c .before .before .table .ensures, (enc-size (x .enc .now) (x .mac .now) (keys (k .before .before .before)), s .0, s .1, room k))
+    let m = master-sizes (x .enc .now) (x .mac .now) (keys (k .before .before .before)) in
+    (c .before .before .table .ensures, (omega arith, omega arith, omega arith, room k))
 
 same-length : tie.Need-same-length
 same-length c = search needs
