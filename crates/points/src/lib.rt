@@ -1,0 +1,1 @@
+// The test points of the definitions stand in specs/.
