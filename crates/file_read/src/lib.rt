@@ -1,7 +1,7 @@
 // The file opener and the range read in the cipher combo SIV_GCM.
-pub mod chunks;
-pub mod inside;
-pub mod range;
+mod chunks;
+mod inside;
+mod range;
 
 use crate::inside::read_inside;
 use answer::Answer;
@@ -18,7 +18,7 @@ ghost use Rattle.frame.specs.Frame.{readRange, openFile};
 ghost use Rattle.siv_gcm.specs.SivGcm.{codec};
 ghost use Rattle.answer.specs.Meaning.{meaning};
 
-// Does the range end behind n? The sum is taken modulo 2^64, and has wrapped where it is less than from.
+// Does the range end past n? The sum is taken modulo 2^64, and has wrapped where it is less than from.
 fn outside(n: usize, from: usize, count: usize) -> bool
     ensures { λ r. ⌜ r ≡ ltb n (from + count) ⌝ }
 {

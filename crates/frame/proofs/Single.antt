@@ -92,7 +92,7 @@ module _ (C : Codec) (𝓛 : Laws C) where
   header-opens-exactly b out bytes room = ((was-written, λ c. (keySize ∷ [], ap (λ (e : End). e .outcome) (opens (c .0) (c .1) (c .2)))), opens)
     where
       opens : (h : Head) → HeadFits z h → headerOf h ≡ b → openHeader C b out ≡ ended (done (keySize ∷ [])) (filled (h .key) keySize out)
-      opens h ok e = ap (λ (x : List ℕ). openHeader C x out) (sym e) ∙ header-opens h out ok room
+      opens h ok e = ap (λ (x : List ℕ). openHeader C x out) (sym e) ∙ header-opens h out ok (room (ap length (sym e) ∙ 𝓛 .header-size h ok))
 
       was-written : Succeeded (openHeader C b out) → (h : Head) × HeadFits z h × (headerOf h ≡ b)
       was-written s =
@@ -139,7 +139,9 @@ module _ (C : Codec) (𝓛 : ChunkLaws C) where
       opens : (n p : List ℕ) → ChunkFits z n p → chunkOf h i n p ≡ c → openChunk C h i c out ≡ ended (done (length p ∷ [])) (filled p (length p) out)
       opens n p fits e =
           let l : length c ≡ length p + z .overhead = ap length (sym e) ∙ 𝓛 .chunk-size h i n p ok (fits .nonce-size) in
-          ap (λ (x : List ℕ). openChunk C h i x out) (sym e) ∙ chunk-opens h i n p out ok fits (omega arith)
+          let k = fits .clear-size in
+          let r = room (omega (arith, l, k)) in
+          ap (λ (x : List ℕ). openChunk C h i x out) (sym e) ∙ chunk-opens h i n p out ok fits (omega (arith, l, r))
 
       was-written : Succeeded (openChunk C h i c out) → (n : List ℕ) × (p : List ℕ) × ChunkFits z n p × (chunkOf h i n p ≡ c)
       was-written s =

@@ -8,7 +8,7 @@ use Prim.Native.Nat.{ℕ, _+_, _-_, _≤_, _<_}
 use lib.ListN.{length}
 use Rattle.octets.specs.Bytes.{Bytes, filled}
 use Rattle.octets.specs.Rows.{done, refused, NoRow, EndsExactly, ended, Succeeded}
-use Rattle.frame.specs.Layout.{Sizes, limit, fileLength, clearLength, rightLength}
+use Rattle.frame.specs.Layout.{Sizes, limit, stored, fileLength, clearLength, rightLength}
 use Rattle.frame.specs.Frame.{Head, HeadFits, Codec, keySize}
 use Rattle.frame.specs.Single.{ChunkFits, fileLengthOf, clearLengthOf, writeHeaderRows, writeHeader, openHeaderRows, openHeader, writeChunkRows, writeChunk, openChunkRows, openChunk}
 
@@ -37,7 +37,7 @@ module _ (C : Codec) where
       × ((h : Head) (i : ℕ) (c out : List ℕ)
       → EndsExactly (openChunkRows C h i c (length out)) ((length c - z .overhead) ∷ []) (filled (plain h i c) (length c - z .overhead) out) out (openChunk C h i c out))
 
-  -- A header of byte strings is one, and so is a chunk.
+  -- The header that is written for byte strings is a byte string, and so is the chunk.
   abbrev pub SingleBytes : Type 0
   SingleBytes =
       ((h : Head) → HeadFits z h → Bytes (headerOf h))
@@ -50,10 +50,10 @@ module _ (C : Codec) where
       → (writeHeader C h out ≡ ended (done (length (headerOf h) ∷ [])) (filled (headerOf h) (length (headerOf h)) out))
       × (openHeader C (headerOf h) into ≡ ended (done (keySize ∷ [])) (filled (h .key) keySize into))
 
-  -- Given room, a byte string opens as a header exactly when it is the header of some nonce and content key; and then to that content key.
+  -- Given room, if the size is right, a byte string opens as a header exactly when it is the header of some nonce and content key; and then to that content key.
   abbrev pub HeaderOpensExactly : Type 0
   HeaderOpensExactly =
-      (b out : List ℕ) → Bytes b → keySize ≤ length out
+      (b out : List ℕ) → Bytes b → (length b ≡ z .header → keySize ≤ length out)
       → (Succeeded (openHeader C b out) ↔ ((h : Head) × HeadFits z h × (headerOf h ≡ b)))
       × ((h : Head) → HeadFits z h → headerOf h ≡ b → openHeader C b out ≡ ended (done (keySize ∷ [])) (filled (h .key) keySize out))
 
@@ -65,9 +65,9 @@ module _ (C : Codec) where
       → (writeChunk C h i n p out ≡ ended (done (length (chunkOf h i n p) ∷ [])) (filled (chunkOf h i n p) (length (chunkOf h i n p)) out))
       × (openChunk C h i (chunkOf h i n p) into ≡ ended (done (length p ∷ [])) (filled p (length p) into))
 
-  -- Given room, a byte string opens as chunk i exactly when it is chunk i of some nonce and cleartext; and then to that cleartext.
+  -- Given room, if it is no longer than a chunk, a byte string opens as chunk i exactly when it is chunk i of some nonce and cleartext; and then to that cleartext.
   abbrev pub ChunkOpensExactly : Type 0
   ChunkOpensExactly =
-      (h : Head) (i : ℕ) (c out : List ℕ) → HeadFits z h → Bytes c → length c - z .overhead ≤ length out
+      (h : Head) (i : ℕ) (c out : List ℕ) → HeadFits z h → Bytes c → (length c ≤ stored z → length c - z .overhead ≤ length out)
       → (Succeeded (openChunk C h i c out) ↔ ((n : List ℕ) × (p : List ℕ) × ChunkFits z n p × (chunkOf h i n p ≡ c)))
       × ((n p : List ℕ) → ChunkFits z n p → chunkOf h i n p ≡ c → openChunk C h i c out ≡ ended (done (length p ∷ [])) (filled p (length p) out))

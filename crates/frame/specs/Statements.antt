@@ -5,7 +5,7 @@ use mathlib.Core.Bool.{true, false}
 use mathlib.Core.Logic.{_↔_}
 use mathlib.Core.List.{List, [], _∷_}
 use Prim.Native.Nat.{ℕ, _≤_}
-use lib.ListN.{length, drop}
+use lib.ListN.{length, take, drop}
 use Rattle.octets.specs.Bytes.{Bytes, filled}
 use Rattle.octets.specs.Rows.{done, refusedAt, NoRow, EndsExactly, ended, Succeeded}
 use Rattle.frame.specs.Layout.{Sizes, limit, fileLength, clearLength, rightLength, chunkAt, Inside, Covers, Alike}
@@ -35,17 +35,17 @@ module _ (C : Codec) where
       → EndsExactly (writeRows C c (length out)) (fileLength z (length (c .clear)) ∷ []) (filled (fileOf C c) (fileLength z (length (c .clear))) out) out (writeFile C c out))
 
   -- Chunk i covers the range, and its tag is wrong.
-  abbrev pub Bad : List ℕ → ℕ → ℕ → ℕ → Type 0
-  Bad f from count i = Covers z (length f) from count i × (good (headIn C f) i (chunkAt z f i) ≡ false)
+  abbrev pub WrongTag : List ℕ → ℕ → ℕ → ℕ → Type 0
+  WrongTag f from count i = Covers z (length f) from count i × (good (headIn C f) i (chunkAt z f i) ≡ false)
 
-  -- The number that row 10 returns is that of the lowest bad chunk; and a range with a bad chunk is not read.
+  -- Row 10 is given with the number i exactly when none of the five rows before it applies and i is the lowest covering chunk whose tag is wrong.
   abbrev pub RowTen : Type 0
   RowTen =
       (f : List ℕ) (from count i : ℕ) (out : List ℕ)
-      → (readRange C f from count out .outcome ≡ refusedAt 10 i → Bad f from count i × ((j : ℕ) → Bad f from count j → i ≤ j))
-      × (Bad f from count i → Succeeded (readRange C f from count out) → ⊥)
+      → (readRange C f from count out ≡ ended (refusedAt 10 i) out)
+      ↔ (NoRow (take 5 (rangeRows C f from count (length out))) × WrongTag f from count i × ((j : ℕ) → WrongTag f from count j → i ≤ j))
 
-  -- The file of byte strings is one.
+  -- The file that is written for byte strings is a byte string.
   abbrev pub FileBytes : Type 0
   FileBytes = (c : Choice) → Fits z c → Bytes (fileOf C c)
 

@@ -2,7 +2,8 @@
 -- and of file contents.
 -- Assumes nothing.
 use Prim.Native.Nat.{ℕ}
-use mathlib.Core.Bool.{Bool, _&&_}
+use mathlib.Core.Path.{_≡_}
+use mathlib.Core.Bool.{Bool, true, _&&_}
 use mathlib.Core.List.{List, [], _++_}
 use lib.ListN.{length, take, drop, replicate}
 use lib.Dec.{eqb}
@@ -27,6 +28,10 @@ opens e a b = gcm.good e (take 12 b) a (drop 12 b)
 
 unfoldable pub opened : (List ℕ → List ℕ) → List ℕ → List ℕ
 opened e b = gcm.plain e (take 12 b) (drop 12 b)
+
+-- The tag of b is right, under some associated data.
+abbrev pub Tagged : (List ℕ → List ℕ) → List ℕ → Type 0
+Tagged e b = (a : List ℕ) × (opens e a b ≡ true)
 
 -- The eight bytes that are sealed before the content key in a header.
 abbrev pub reserved : List ℕ

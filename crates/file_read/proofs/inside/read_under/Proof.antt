@@ -14,9 +14,9 @@ use Rattle.octets.specs.Bytes.{filled}
 use Rattle.octets.specs.Rows.{done, refusedAt, ended}
 use Rattle.aes_spec.specs.Cipher.{cipher, aes}
 use Rattle.aes.proofs.Ciphers.{under-key}
-use Rattle.frame.specs.Layout.{chunkSize, covering, fileLength, lowestBad, allParts}
-use Rattle.frame.proofs.Pieces.{covers-end}
-use Rattle.siv_gcm.specs.SivGcm.{sivGcm, headWith}
+use Rattle.frame.specs.Layout.{chunkSize, covering, fileLength, chunkAt, lowestBad, allParts}
+use Rattle.frame.proofs.Pieces.{covers-end, below-good}
+use Rattle.siv_gcm.specs.SivGcm.{sivGcm, headWith, chunkData, Tagged}
 use Rattle.file_read.specs.Under.{goodUnder, plainUnder, badUnder}
 use Rattle.file_read.proofs.Under.{under-bad, under-good}
 
@@ -81,7 +81,13 @@ slice-aggregate-write-range c = search needs
 write-range-requires : tie.Need-write-range-requires
 write-range-requires c κs =
     let i = c .before .before .before .before .before .before .before .before .before .before .before .before .before .before .before in
-    ((i .pre .0, search needs), (i .pre .1 .1, i .pre .1 .2, i .pre .1 .3))
+    let b = c .before .before in
+    let x = i .args in
+    let e = b .before .before .before .before .end-chunk in
+    let good = goodUnder (cipher 14 (b .before .before .before .before .before .before .before .before .expand .last .1 .0)) (take 12 (x .file .now)) in
+    let tagged : (j : ℕ) → x .from / 32768 ≤ j → j < x .from / 32768 + covering (x .from) (x .count) → Tagged (cipher 14 (b .before .before .before .before .before .before .before .before .expand .last .1 .0)) (chunkAt sivGcm (x .file .now) j) =
+    λ j l u. (chunkData (take 12 (x .file .now)) j, below-good sivGcm good (x .file .now) (x .from / 32768) (e .result - x .from / 32768) j l (omega (arith, e .ensures, b .before .lowest-bad .ensures, b .if1 .left, u))) in
+    ((i .pre .0, search needs), ((i .pre .1 .1, i .pre .1 .2, i .pre .1 .3), tagged))
 
 same-length : tie.Need-same-length
 same-length c = search needs

@@ -13,8 +13,9 @@ use Rattle.octets.specs.Bytes.{filled}
 use Rattle.aes_spec.specs.Cipher.{cipher}
 use Rattle.aes.proofs.Ciphers.{length-cipher}
 use Rattle.frame.specs.Layout.{allParts}
+use Rattle.frame.proofs.Pieces.{covers-byte}
 use Rattle.frame.proofs.Filling.{length-part, part-fits, turn, filled-clear}
-use Rattle.siv_gcm.specs.SivGcm.{sivGcm}
+use Rattle.siv_gcm.specs.SivGcm.{sivGcm, opens}
 use Rattle.siv_gcm.proofs.Sealed.{opened-length}
 use Rattle.file_read.specs.Under.{plainUnder}
 
@@ -64,10 +65,14 @@ open-part-requires c κs =
     let s = length-part (l .loop .out) (l .loop .done) w (search needs) in
     let f = part-fits (a .n) p w (search needs) (search needs) in
     let e = c .before .chunk-of .ensures .1 in
-    (i .pre .0, omega (arith, s, f, e))
+    let b = covers-byte (a .from) (a .count) (l .loop .done) (search needs) in
+    let g = i .pre .1 .1 (p / 32768) (omega arith) b in
+    ((i .pre .0 .0, i .pre .0 .1, (g .0, ap (opens (cipher 14 (a .w .now)) (g .0)) (c .before .chunk-of .ensures .0) ∙ g .1)), omega (arith, s, f, e))
 
 loop-less : tie.Need-loop-less Inv-loop μ-loop
-loop-less c = search needs
+loop-less c =
+    let w = c .before .before .before .before .before .part-len in
+    omega (arith, w .ensures .1, w .ensures .3)
 
 loop-again : tie.Need-loop-again Inv-loop μ-loop
 loop-again c =

@@ -90,7 +90,10 @@ slice-aggregate-open-part-2 : tie.Need-slice-aggregate-open-part-2
 slice-aggregate-open-part-2 c = search needs
 
 open-part-requires : tie.Need-open-part-requires
-open-part-requires c κs = search needs
+open-part-requires c κs =
+    let g = c .before .before .before in
+    let i = g .before .before .before .before .before .before .before .before .before .before .before in
+    ((i .pre .0, search needs, ([], sym (g .good2 .ensures) ∙ not-false (g .good2 .result) (c .before .before .if1 .left))), omega (arith, i .pre .1))
 
 array-share-prefix-cleartext : tie.Need-array-share-prefix-cleartext
 array-share-prefix-cleartext c = search needs
