@@ -1,4 +1,5 @@
-// The calls on a single chunk. They are lent the content key and the header's nonce, and no master key.
+// The calls on a single chunk. They are lent the content key and the header's nonce, and no master key: a chunk does not depend on any,
+// so the contracts hold for every two.
 use aes::key::expand;
 use aes::round_table::table;
 use answer::Answer;
@@ -50,7 +51,7 @@ fn seal_under(
     seal_chunk(&t, &w, h, header_nonce, number, nonce, cleartext, out);
 }
 
-/// Writes the chunk of a number, a nonce and a cleartext of 1 to 32,768 bytes: 28 bytes more.
+/// Writes the chunk of a number, a nonce and a cleartext of 1 to 32,768 bytes: 28 bytes more. Rows 1, 4, 7.
 pub fn write_chunk(
     key: &[u8],
     header_nonce: &[u8],
@@ -96,7 +97,7 @@ fn open_under(key: &[u8], header_nonce: &[u8], number: u64, chunk: &[u8], out: &
     true
 }
 
-/// Opens a chunk under its number: writes its cleartext, 28 bytes less.
+/// Opens a chunk under its number: writes its cleartext, 28 bytes less. Rows 1, 4, 7, 10 with that number.
 pub fn open_chunk(
     key: &[u8],
     header_nonce: &[u8],

@@ -1,4 +1,4 @@
-// The calls on a single header.
+// The calls on a single header, under the encryption master key enc and the MAC master key mac.
 use aes::round_table::table;
 use answer::Answer;
 use answer::Refusal;
@@ -11,7 +11,7 @@ ghost use Rattle.frame.specs.Single.{writeHeader, openHeader};
 ghost use Rattle.siv_gcm.specs.SivGcm.{codec, headWith};
 ghost use Rattle.answer.specs.Meaning.{meaning};
 
-/// Writes the header of a nonce and a content key: 68 bytes.
+/// Writes the header of a nonce and a content key: 68 bytes. Rows 1, 7.
 pub fn write_header(enc: &[u8], mac: &[u8], nonce: &[u8], key: &[u8], out: &mut [u8]) -> Answer
     ensures { λ r. ⌜ ended (meaning r) (now (out .exit)) ≡ writeHeader (codec (now (enc .entry)) (now (mac .entry))) (headWith (now (nonce .entry)) (now (key .entry))) (now (out .entry)) ⌝ }
 {
@@ -29,7 +29,7 @@ pub fn write_header(enc: &[u8], mac: &[u8], nonce: &[u8], key: &[u8], out: &mut 
     Answer::Done(68)
 }
 
-/// Opens a header: writes its content key, 32 bytes.
+/// Opens a header: writes its content key, 32 bytes. Rows 1, 4, 7, 9.
 pub fn open_header(enc: &[u8], mac: &[u8], header: &[u8], out: &mut [u8]) -> Answer
     ensures { λ r. ⌜ ended (meaning r) (now (out .exit)) ≡ openHeader (codec (now (enc .entry)) (now (mac .entry))) (now (header .entry)) (now (out .entry)) ⌝ }
 {

@@ -1,4 +1,4 @@
-// The file writer.
+// The file writer in the cipher combo SIV_GCM, under the encryption master key enc and the MAC master key mac.
 mod chunks;
 mod nonces;
 
@@ -66,6 +66,7 @@ fn seal_file(
 }
 
 /// Writes the file of a cleartext to the front of out, and answers its length. `nonces` has 12 bytes for each chunk, in order.
+/// Rows 1, 4, 7, 8.
 pub fn write_file(
     enc: &[u8],
     mac: &[u8],

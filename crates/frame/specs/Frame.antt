@@ -29,7 +29,7 @@ pub record Codec : Type 0 where
   pub good : Head → ℕ → List ℕ → Bool
   pub plain : Head → ℕ → List ℕ → List ℕ
 
--- The choice of a writer. The nonces of the chunks are one list, in order.
+-- A choice, a term of this library: all that determines a file. The nonces of the chunks are one list, in order.
 pub record Choice : Type 0 where
   pub head : Head
   pub nonces : List ℕ
@@ -67,7 +67,7 @@ headRight z h = eqb (length (h .nonce)) (z .nonce) && eqb (length (h .key)) keyS
 module _ (C : Codec) where
   open Codec C using (sizes as z, keysRight, headerOf, chunkOf, headOf, headerGood, good, plain)
 
-  -- the writing rules: the header, then the chunks in order
+  -- the file of a choice, a term of this library: the bytes that the writing rules give for it, the header in front
   unfoldable pub fileOf : Choice → List ℕ
   fileOf c = headerOf (c .head) ++ chunksFrom z (chunkOf (c .head)) 0 (chunks (length (c .clear))) (c .nonces) (c .clear)
 
@@ -110,7 +110,7 @@ module _ (C : Codec) where
       ∷ (ltb (badChunk f 0 (clearLength z (length f))) (chunks (clearLength z (length f))), refusedAt 10 (badChunk f 0 (clearLength z (length f))))
       ∷ []
 
-  -- what opening the file f into the buffer `out` ends in
+  -- what opening the file f into the buffer `out` ends in; a byte string opens, as this library says, where that is a success
   unfoldable pub openFile : List ℕ → List ℕ → End
   openFile f out =
       ending (answer (openRows f (length out)) (done (clearLength z (length f) ∷ []))) (filled (clearOf f) (clearLength z (length f)) out) out

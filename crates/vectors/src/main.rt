@@ -1,5 +1,5 @@
-// Published vectors of the building blocks, and values of the stock program's tests, a line each: what it prints is compared with
-// the published values.
+// Published vectors of the building blocks, values of the stock program's tests, and names worked out with OpenSSL, a line each: what
+// it prints is compared with those values.
 use content::chunk::open_chunk;
 use content::chunk::write_chunk;
 use content::header::open_header;
@@ -8,7 +8,10 @@ use file_read::open_file;
 use file_read::read_range;
 use file_write::write_file;
 use libc::STDOUT_FILENO;
+use names::opener::open_long_name;
+use names::opener::open_name;
 use names::path::dir_path;
+use names::writer::write_name;
 use primitives::authenticated::primitives_gcm_open;
 use primitives::authenticated::primitives_gcm_seal;
 use primitives::cipher::primitives_aes256;
@@ -26,6 +29,12 @@ fn print(bytes: &[u8]) {
         io::print_hex(STDOUT_FILENO, bytes[i] as u64, 2);
         i += 1;
     }
+    io::write_all(STDOUT_FILENO, b"\n");
+}
+
+// The bytes as they are, on a line.
+fn line(bytes: &[u8]) {
+    io::write_all(STDOUT_FILENO, bytes);
     io::write_all(STDOUT_FILENO, b"\n");
 }
 
@@ -94,12 +103,10 @@ fn sha1() {
 fn text() {
     let mut base32 = [0u8; 32];
     primitives_base32(b"foobafoobafoobafooba", &mut base32);
-    io::write_all(STDOUT_FILENO, &base32);
-    io::write_all(STDOUT_FILENO, b"\n");
+    line(&base32);
     let mut base64url = [0u8; 8];
     primitives_base64url_encode(b"fooba", 1, &mut base64url);
-    io::write_all(STDOUT_FILENO, &base64url);
-    io::write_all(STDOUT_FILENO, b"\n");
+    line(&base64url);
 }
 
 // The stock program's header, under keys and a nonce of zeros, and the content key that it opens to.
@@ -142,12 +149,53 @@ fn file() {
     print(&part);
 }
 
-// The stock program's path of the root directory.
+// The stock program's path of the root directory, and the path of another one.
 fn path() {
+    let enc = [0x55u8; 32];
+    let mac = [0x77u8; 32];
     let mut out = [0u8; 36];
-    dir_path(&[0x55u8; 32], &[0x77u8; 32], b"", &mut out);
-    io::write_all(STDOUT_FILENO, &out);
-    io::write_all(STDOUT_FILENO, b"\n");
+    dir_path(&enc, &mac, b"", &mut out);
+    line(&out);
+    dir_path(
+        &enc,
+        &mac,
+        b"5e1a0c6e-6f2b-4d5e-9a55-3a0f2c7b9d10",
+        &mut out,
+    );
+    line(&out);
+}
+
+// A name in the root and in another directory, and what the second opens to.
+fn name() {
+    let enc = [0x55u8; 32];
+    let mac = [0x77u8; 32];
+    let id = b"5e1a0c6e-6f2b-4d5e-9a55-3a0f2c7b9d10";
+    let mut stored = [0u8; 36];
+    let mut full = [0u8; 1];
+    write_name(&enc, &mac, b"", b"log.txt", &mut stored, &mut full);
+    line(&stored);
+    write_name(&enc, &mac, id, b"log.txt", &mut stored, &mut full);
+    line(&stored);
+    let mut name = [0u8; 7];
+    open_name(&enc, &mac, id, &stored, &mut name);
+    line(&name);
+}
+
+// The shortest name that is shortened: its hash name, its full name, and what the two open to.
+fn long_name() {
+    let enc = [0x55u8; 32];
+    let mac = [0x77u8; 32];
+    let id = b"5e1a0c6e-6f2b-4d5e-9a55-3a0f2c7b9d10";
+    let name =
+        b"engine-01234567890123456789012345678901234567890123456789012345678901234567890123456789012345678901234567890123456789012345678901234567890123456789";
+    let mut stored = [0u8; 32];
+    let mut full = [0u8; 224];
+    write_name(&enc, &mac, id, name, &mut stored, &mut full);
+    line(&stored);
+    line(&full);
+    let mut opened = [0u8; 147];
+    open_long_name(&enc, &mac, id, &stored, &full, &mut opened);
+    line(&opened);
 }
 
 fn main() {
@@ -161,4 +209,6 @@ fn main() {
     chunk();
     file();
     path();
+    name();
+    long_name();
 }
