@@ -1,4 +1,1 @@
-pub mod Keys
-pub mod Placing
-pub mod Measured
 pub mod Room

@@ -1,12 +1,12 @@
 // Opening a name.
-use crate::checks::id_right;
-use crate::checks::keys_right;
-use crate::checks::name_length;
-use crate::checks::short;
-use crate::texts::is_hash;
-use crate::texts::open_text;
 use answer::Answer;
 use answer::Refusal;
+use name_texts::checks::id_right;
+use name_texts::checks::keys_right;
+use name_texts::checks::name_length;
+use name_texts::checks::short;
+use name_texts::texts::is_hash;
+use name_texts::texts::open_text;
 ghost use mathlib.Core.Path.{_≡_};
 ghost use Rattle.octets.specs.Rows.{ended};
 ghost use Rattle.answer.specs.Meaning.{meaning};

@@ -1,13 +1,13 @@
 // Writing a name.
-use crate::checks::id_right;
-use crate::checks::keys_right;
-use crate::checks::name_right;
-use crate::checks::short;
-use crate::texts::full_length;
-use crate::texts::write_full;
-use crate::texts::write_hash;
 use answer::NameAnswer;
 use answer::Refusal;
+use name_texts::checks::id_right;
+use name_texts::checks::keys_right;
+use name_texts::checks::name_right;
+use name_texts::checks::short;
+use name_texts::texts::full_length;
+use name_texts::texts::write_full;
+use name_texts::texts::write_hash;
 ghost use mathlib.Core.Path.{_≡_};
 ghost use Rattle.answer.specs.Meaning.{nameMeaning};
 ghost use Rattle.name_spec.specs.Calls.{nameEnded, writeName};

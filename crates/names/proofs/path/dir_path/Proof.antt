@@ -12,7 +12,7 @@ use Rattle.name_spec.specs.Names.{idRight, path}
 use Rattle.name_spec.specs.Calls.{pathLength, dirPathRows}
 use Rattle.name_spec.proofs.Texts.{length-path, id-size}
 use Rattle.name_spec.proofs.Ends.{name-rows-exactly}
-use Rattle.names.proofs.Placing.{placed-filled}
+use Rattle.name_texts.proofs.Placing.{placed-filled}
 use borrow.Author.Needs.{needs}
 use Rattle.names.proofs.path.dir_path.Statement.{statement}
 use Rattle.names.proofs.path.dir_path.Tie as tie

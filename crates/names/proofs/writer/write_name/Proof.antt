@@ -14,7 +14,7 @@ use Rattle.name_spec.specs.Names.{threshold, idRight, nameRight, fullName, hash
 use Rattle.name_spec.specs.Calls.{hashLength, lacksRoom, nameEnded, writeNameRows}
 use Rattle.name_spec.proofs.Texts.{name-sizes, length-full, length-hash}
 use Rattle.name_spec.proofs.Ends.{name-rows-exactly, plain-written, long-written}
-use Rattle.names.proofs.Placing.{front, placed-filled}
+use Rattle.name_texts.proofs.Placing.{front, placed-filled}
 use Rattle.names.proofs.Room.{plain-lacks, plain-has, stored-lacks, full-lacks, both-have}
 use borrow.Author.Needs.{needs}
 use Rattle.names.proofs.writer.write_name.Statement.{statement}

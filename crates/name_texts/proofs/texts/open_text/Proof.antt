@@ -1,0 +1,142 @@
+-- `open_text`: the sealed name of the text, opened into a buffer of its own before the caller's gets a byte.
+-- Assumes nothing.
+use Prim.Native.Nat.{ℕ, _+_, _-_}
+use mathlib.Core.Path.{_≡_, refl, sym, ap, _∙_}
+use mathlib.Core.List.{List, [], _∷_}
+use native.Mathlib.Omega.{arith}
+use lib.ListN.{length, take, replicate}
+use lib.Seq.{length-take-le}
+use borrow.Author.Tests.{not-true, not-false}
+use Rattle.octets.specs.Bytes.{placed}
+use Rattle.aes_spec.specs.Cipher.{aes}
+use Rattle.siv.specs.Siv as siv
+use Rattle.name_spec.specs.Names.{sealedOf, nameLength, nameOf, nameGood}
+use Rattle.name_spec.proofs.Texts.{text-facts, text-size, length-name}
+use Rattle.name_texts.proofs.Placing.{front}
+use borrow.Author.Needs.{needs}
+use Rattle.name_texts.proofs.texts.open_text.Statement.{statement}
+use Rattle.name_texts.proofs.texts.open_text.Tie as tie
+
+sealed-size : (c : tie.After-sealed3) → length (sealedOf (c .before .before .before .before .before .before .before .before .before .before .args .text .now)) ≡ c .before .before .before .before .before .before .before .before .before .before .args .n + 16
+unfolding nameLength
+sealed-size c =
+    let p = c .before .before .before .before .before .before .before .before .before .before .pre .1 in
+    let f = text-facts (c .before .before .before .before .before .before .before .before .before .before .args .text .now) (p .0) in
+    omega (arith, f .low, p .1)
+
+-- What the stem stands for.
+sealed : (c : tie.After-sealed3) →
+    let x = c .before .before .before .before .before .before .before .before .before .before .args in
+    take (x .n + 16) (c .before .before .decode .last .1 .1 .0) ≡ sealedOf (x .text .now)
+unfolding sealedOf
+sealed c =
+    let x = c .before .before .before .before .before .before .before .before .before .before .args in
+    ap (take (x .n + 16)) (c .before .before .decode .ensures) ∙ front (sealedOf (x .text .now)) (replicate 271 0) (x .n + 16) (sealed-size c)
+
+matches : (c : tie.After-open-under) →
+    let x = c .before .before .before .before .before .before .before .before .before .before .before .before .args in
+    c .open-under .result ≡ nameGood (x .enc .now) (x .mac .now) (x .id .now) (x .text .now)
+unfolding nameGood
+matches c =
+    let x = c .before .before .before .before .before .before .before .before .before .before .before .before .args in
+    c .open-under .ensures .0 ∙ ap (siv.good (aes 8 (x .mac .now)) (aes 8 (x .enc .now)) (x .id .now ∷ [])) (sealed (c .before .before))
+
+name-size : (c : tie.After-open-under) →
+    let x = c .before .before .before .before .before .before .before .before .before .before .before .before .args in
+    length (nameOf (x .enc .now) (x .text .now)) ≡ x .n
+name-size c = let x = c .before .before .before .before .before .before .before .before .before .before .before .before .args in length-name (x .enc .now) (x .text .now) ∙ sym (c .before .before .before .before .before .before .before .before .before .before .before .before .pre .1 .1)
+
+-- The name that was opened.
+name : (c : tie.After-open-under) →
+    let x = c .before .before .before .before .before .before .before .before .before .before .before .before .args in
+    take (x .n) (c .open-under .last .1 .1 .1 .1 .0) ≡ nameOf (x .enc .now) (x .text .now)
+unfolding nameOf
+name c =
+    let x = c .before .before .before .before .before .before .before .before .before .before .before .before .args in
+    ap (take (x .n)) (c .open-under .ensures .1 ∙ ap (λ (z : List ℕ). placed (siv.plain (aes 8 (x .enc .now)) z) 0 (replicate 255 0)) (sealed (c .before .before)))
+    ∙ front (nameOf (x .enc .now) (x .text .now)) (replicate 255 0) (x .n) (name-size c)
+
+sub-k : tie.Need-sub-k
+sub-k c = let t = text-size (c .before .before .before .before .before .args .text .now) (c .before .before .before .before .before .pre .1 .0) in omega (arith, t)
+
+slice-aggregate-decode : tie.Need-slice-aggregate-decode
+slice-aggregate-decode c = let t = c .before .before .before .before .before .before .args .text .now in sym (length-take-le (length t - 4) t (omega arith))
+
+slice-aggregate-decode-2 : tie.Need-slice-aggregate-decode-2
+slice-aggregate-decode-2 c = search needs
+
+decode-requires : tie.Need-decode-requires
+unfolding sealedOf
+decode-requires c κs = let f = text-facts (c .before .before .before .before .before .before .before .args .text .now) (c .before .before .before .before .before .before .before .pre .1 .0) in (f .accepted, f .high)
+
+add-m : tie.Need-add-m
+add-m c = search needs
+
+array-share-prefix-sealed : tie.Need-array-share-prefix-sealed
+unfolding nameLength
+array-share-prefix-sealed c =
+    let p = c .before .before .before .before .before .before .before .before .before .pre .1 in
+    let f = text-facts (c .before .before .before .before .before .before .before .before .before .args .text .now) (p .0) in
+    let l : length (c .before .decode .last .1 .1 .0) ≡ 271 = search needs in
+    omega (arith, l, f .low, f .high, p .1)
+
+slice-aggregate-open-under : tie.Need-slice-aggregate-open-under
+slice-aggregate-open-under c = sym (ap length (sealed c) ∙ sealed-size c)
+
+slice-aggregate-open-under-2 : tie.Need-slice-aggregate-open-under-2
+slice-aggregate-open-under-2 c = search needs
+
+open-under-requires : tie.Need-open-under-requires
+open-under-requires c κs =
+    let l = ap length (sealed (c .before)) ∙ sealed-size (c .before) in
+    let f = text-facts (c .before .before .before .before .before .before .before .before .before .before .before .args .text .now) (c .before .before .before .before .before .before .before .before .before .before .before .pre .1 .0) in
+    let n = sealed-size (c .before) in
+    (c .before .before .before .before .before .before .before .before .before .before .before .pre .0, (omega (arith, l), omega (arith, l, n, f .high), omega (arith, l, n, f .high)))
+
+returns : tie.Need-returns
+returns c = (sym (not-true _ (c .if1 .taken)) ∙ matches (c .before .before), refl)
+
+array-share-prefix-name : tie.Need-array-share-prefix-name
+unfolding nameLength
+array-share-prefix-name c =
+    let p = c .before .before .before .before .before .before .before .before .before .before .before .before .before .before .pre .1 in
+    let f = text-facts (c .before .before .before .before .before .before .before .before .before .before .before .before .before .before .args .text .now) (p .0) in
+    let l : length (c .before .before .open-under .last .1 .1 .1 .1 .0) ≡ 255 = search needs in
+    omega (arith, l, f .high, p .1)
+
+slice-aggregate-copy-at : tie.Need-slice-aggregate-copy-at
+slice-aggregate-copy-at c = sym (ap length (name (c .before .before .before)) ∙ name-size (c .before .before .before))
+
+copy-at-requires : tie.Need-copy-at-requires
+copy-at-requires c κs = let l = ap length (name (c .before .before .before .before)) ∙ name-size (c .before .before .before .before) in omega (arith, l, c .before .before .before .before .before .before .before .before .before .before .before .before .before .before .before .before .pre .1 .2)
+
+same-length : tie.Need-same-length
+same-length c = search needs
+
+returns-2 : tie.Need-returns-2
+returns-2 c =
+    let k = c .before .before .before .before .before .before .before in
+    let x = k .before .before .before .before .before .before .before .before .before .before .before .before .args in (
+      sym (not-false _ (c .before .before .before .before .before .if1 .left)) ∙ matches k,
+      c .before .before .copy-at .ensures ∙ ap (λ (l : List ℕ). placed l 0 (x .out .now)) (name k),
+    )
+
+pub open-text-spec : {M : Type 1} → statement M
+open-text-spec =
+    tie.close
+    (tie.spec
+    sub-k
+    slice-aggregate-decode
+    slice-aggregate-decode-2
+    decode-requires
+    add-m
+    array-share-prefix-sealed
+    slice-aggregate-open-under
+    slice-aggregate-open-under-2
+    open-under-requires
+    returns
+    array-share-prefix-name
+    slice-aggregate-copy-at
+    copy-at-requires
+    same-length
+    returns-2)
