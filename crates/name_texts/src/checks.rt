@@ -4,7 +4,6 @@ use encoding::base64url::Measure;
 use octets::slice::equal;
 ghost use mathlib.Core.Path.{_≡_};
 ghost use mathlib.Core.Bool.{cond};
-ghost use Rattle.siv_gcm.specs.SivGcm.{masterKeysRight};
 ghost use Rattle.name_spec.specs.Names as spec;
 
 // The most bytes of a directory ID, and of a name.
@@ -14,16 +13,6 @@ const NAME_LIMIT: usize = 255;
 
 // The most characters of a full name that is stored as it is.
 const THRESHOLD: usize = 220;
-
-// Do both master keys have their size?
-pub fn keys_right(enc: &[u8], mac: &[u8]) -> bool
-    ensures { λ r. ⌜ r ≡ masterKeysRight (now (enc .entry)) (now (mac .entry)) ⌝ }
-{
-    if enc.len() != 32 {
-        return false;
-    }
-    mac.len() == 32
-}
 
 // Is each byte below 128?
 fn ascii(s: &[u8]) -> bool

@@ -2,11 +2,11 @@
 use answer::Answer;
 use answer::Refusal;
 use name_texts::checks::id_right;
-use name_texts::checks::keys_right;
 use name_texts::checks::name_length;
 use name_texts::checks::short;
 use name_texts::texts::is_hash;
 use name_texts::texts::open_text;
+use siv_gcm::sizes::master_keys_right;
 ghost use mathlib.Core.Path.{_≡_};
 ghost use Rattle.octets.specs.Rows.{ended};
 ghost use Rattle.answer.specs.Meaning.{meaning};
@@ -16,7 +16,7 @@ ghost use Rattle.name_spec.specs.Calls.{openName, openLongName};
 pub fn open_name(enc: &[u8], mac: &[u8], dir_id: &[u8], stored: &[u8], out: &mut [u8]) -> Answer
     ensures { λ r. ⌜ ended (meaning r) (now (out .exit)) ≡ openName (now (enc .entry)) (now (mac .entry)) (now («dir_id» .entry)) (now (stored .entry)) (now (out .entry)) ⌝ }
 {
-    if !keys_right(enc, mac) {
+    if !master_keys_right(enc, mac) {
         return Answer::Refused(Refusal::KeyOrNonceSize);
     }
     if !id_right(dir_id) {
@@ -49,7 +49,7 @@ pub fn open_long_name(
 ) -> Answer
     ensures { λ r. ⌜ ended (meaning r) (now (out .exit)) ≡ openLongName (now (enc .entry)) (now (mac .entry)) (now («dir_id» .entry)) (now (stored .entry)) (now (full .entry)) (now (out .entry)) ⌝ }
 {
-    if !keys_right(enc, mac) {
+    if !master_keys_right(enc, mac) {
         return Answer::Refused(Refusal::KeyOrNonceSize);
     }
     if !id_right(dir_id) {

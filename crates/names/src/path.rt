@@ -2,8 +2,8 @@
 use answer::Answer;
 use answer::Refusal;
 use name_texts::checks::id_right;
-use name_texts::checks::keys_right;
 use name_texts::path::write_path;
+use siv_gcm::sizes::master_keys_right;
 ghost use mathlib.Core.Path.{_≡_};
 ghost use Rattle.octets.specs.Rows.{ended};
 ghost use Rattle.answer.specs.Meaning.{meaning};
@@ -13,7 +13,7 @@ ghost use Rattle.name_spec.specs.Calls.{dirPath};
 pub fn dir_path(enc: &[u8], mac: &[u8], dir_id: &[u8], out: &mut [u8]) -> Answer
     ensures { λ r. ⌜ ended (meaning r) (now (out .exit)) ≡ dirPath (now (enc .entry)) (now (mac .entry)) (now («dir_id» .entry)) (now (out .entry)) ⌝ }
 {
-    if !keys_right(enc, mac) {
+    if !master_keys_right(enc, mac) {
         return Answer::Refused(Refusal::KeyOrNonceSize);
     }
     if !id_right(dir_id) {

@@ -2,12 +2,12 @@
 use answer::NameAnswer;
 use answer::Refusal;
 use name_texts::checks::id_right;
-use name_texts::checks::keys_right;
 use name_texts::checks::name_right;
 use name_texts::checks::short;
 use name_texts::texts::full_length;
 use name_texts::texts::write_full;
 use name_texts::texts::write_hash;
+use siv_gcm::sizes::master_keys_right;
 ghost use mathlib.Core.Path.{_≡_};
 ghost use Rattle.answer.specs.Meaning.{nameMeaning};
 ghost use Rattle.name_spec.specs.Calls.{nameEnded, writeName};
@@ -23,7 +23,7 @@ pub fn write_name(
 ) -> NameAnswer
     ensures { λ r. ⌜ nameEnded (nameMeaning r) (now (stored .exit)) (now (full .exit)) ≡ writeName (now (enc .entry)) (now (mac .entry)) (now («dir_id» .entry)) (now (name .entry)) (now (stored .entry)) (now (full .entry)) ⌝ }
 {
-    if !keys_right(enc, mac) {
+    if !master_keys_right(enc, mac) {
         return NameAnswer::Refused(Refusal::KeyOrNonceSize);
     }
     if !id_right(dir_id) {

@@ -22,7 +22,7 @@ use Rattle.names.proofs.opener.open_long_name.Statement.{statement}
 use Rattle.names.proofs.opener.open_long_name.Tie as tie
 
 keys : (c : tie.Else1) → masterKeysRight (c .before .before .before .before .before .before .before .before .args .enc .now) (c .before .before .before .before .before .before .before .before .args .mac .now) ≡ true
-keys c = sym (c .before .keys-right .ensures) ∙ not-false _ (c .if1 .left)
+keys c = sym (c .before .master-keys-right .ensures) ∙ not-false _ (c .if1 .left)
 
 right : (c : tie.Else2) → idRight (c .before .before .before .before .before .before .before .before .before .before .args .dir-id .now) ≡ true
 right c = sym (c .before .id-right .ensures) ∙ not-false _ (c .if2 .left)
@@ -48,15 +48,15 @@ pair : (c : tie.Else6) →
     (short (length (x .full .now)) || not (same (x .stored .now) (hashName (x .full .now)))) ≡ false
 pair c = ap₂ (λ (a b : Bool). a || not b) (long (c .before .before)) (sym (c .before .is-hash .ensures) ∙ not-false _ (c .if6 .left))
 
-keys-right-requires : tie.Need-keys-right-requires
-keys-right-requires c κs = search needs
+master-keys-right-requires : tie.Need-master-keys-right-requires
+master-keys-right-requires c κs = search needs
 
 returns : tie.Need-returns
 unfolding openLongNameRows
 returns c =
     let x = c .before .before .before .before .before .before .before .before .args in
     let exact = name-rows-exactly (x .enc .now) (x .mac .now) (x .dir-id .now) .3 (x .stored .now) (x .full .now) (x .out .now) in
-    sym (exact .0 0 (omega arith) .1 (ap not (sym (c .before .keys-right .ensures)) ∙ c .if1 .taken))
+    sym (exact .0 0 (omega arith) .1 (ap not (sym (c .before .master-keys-right .ensures)) ∙ c .if1 .taken))
 
 id-right-requires : tie.Need-id-right-requires
 id-right-requires c κs = search needs
@@ -151,7 +151,7 @@ pub open-long-name-spec : {M : Type 1} → statement M
 open-long-name-spec =
     tie.close
     (tie.spec
-    keys-right-requires
+    master-keys-right-requires
     returns
     id-right-requires
     returns-2

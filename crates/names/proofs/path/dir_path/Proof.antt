@@ -20,20 +20,20 @@ use Rattle.names.proofs.path.dir_path.Tie as tie
 keys : (c : tie.Else1) →
     let x = c .before .before .before .before .before .before .args in
     masterKeysRight (x .enc .now) (x .mac .now) ≡ true
-keys c = sym (c .before .keys-right .ensures) ∙ not-false _ (c .if1 .left)
+keys c = sym (c .before .master-keys-right .ensures) ∙ not-false _ (c .if1 .left)
 
 right : (c : tie.Else2) → idRight (c .before .before .before .before .before .before .before .before .args .dir-id .now) ≡ true
 right c = sym (c .before .id-right .ensures) ∙ not-false _ (c .if2 .left)
 
-keys-right-requires : tie.Need-keys-right-requires
-keys-right-requires c κs = search needs
+master-keys-right-requires : tie.Need-master-keys-right-requires
+master-keys-right-requires c κs = search needs
 
 returns : tie.Need-returns
 unfolding dirPathRows
 returns c =
     let x = c .before .before .before .before .before .before .args in
     let exact = name-rows-exactly (x .enc .now) (x .mac .now) (x .dir-id .now) .0 (x .out .now) in
-    sym (exact .0 0 (omega arith) .1 (ap not (sym (c .before .keys-right .ensures)) ∙ c .if1 .taken))
+    sym (exact .0 0 (omega arith) .1 (ap not (sym (c .before .master-keys-right .ensures)) ∙ c .if1 .taken))
 
 id-right-requires : tie.Need-id-right-requires
 id-right-requires c κs = search needs
@@ -72,7 +72,7 @@ pub dir-path-spec : {M : Type 1} → statement M
 dir-path-spec =
     tie.close
     (tie.spec
-    keys-right-requires
+    master-keys-right-requires
     returns
     id-right-requires
     returns-2
