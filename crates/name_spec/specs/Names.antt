@@ -84,6 +84,7 @@ module _ (enc mac : List ℕ) where
   unfoldable pub sealedName : List ℕ → List ℕ → List ℕ
   sealedName id name = siv.seal (aes 8 mac) (aes 8 enc) (id ∷ []) name
 
+  -- The full name, the format's ciphertextName: base64url with padding of the sealed name, and its end.
   unfoldable pub fullName : List ℕ → List ℕ → List ℕ
   fullName id name = base64url.encode true (sealedName id name) ++ fullEnd
 
@@ -91,7 +92,7 @@ module _ (enc mac : List ℕ) where
 abbrev pub fullLength : ℕ → ℕ
 fullLength n = base64url.encodedLength true (n + ivSize) + length fullEnd
 
--- The name in whose place a long full name is stored.
+-- The hash name, the format's deflatedName: base64url with padding of the digest of a full name with its end, and another end.
 unfoldable pub hashName : List ℕ → List ℕ
 hashName full = base64url.encode true (sha1 full) ++ hashEnd
 
@@ -99,7 +100,7 @@ hashName full = base64url.encode true (sha1 full) ++ hashEnd
 abbrev pub short : ℕ → Bool
 short n = leb n threshold
 
--- What is stored for a full name.
+-- The stored name: a short full name itself, and the hash name of a longer one.
 unfoldable pub storedName : List ℕ → List ℕ
 storedName full = cond (short (length full)) full (hashName full)
 
@@ -117,8 +118,8 @@ sealedOf t = base64url.decoded true (stem t)
 unfoldable pub nameLength : List ℕ → ℕ
 nameLength t = length (sealedOf t) - ivSize
 
--- The text ends in ".c9r"; before it stands base64url with padding, all its rules kept; and it stands for the 17 to 271 bytes of a
--- sealed name.
+-- The text form: the text ends in ".c9r"; before it stands base64url with padding, all its rules kept; and that stands for 17 to 271
+-- bytes, the lengths that a sealed name can have.
 unfoldable pub textRight : List ℕ → Bool
 textRight t =
     same (drop (length t - length fullEnd) t) fullEnd

@@ -6,10 +6,11 @@ ghost use mathlib.Core.Path.{_≡_};
 ghost use mathlib.Core.Bool.{cond};
 ghost use Rattle.name_spec.specs.Names as spec;
 
-// The most bytes of a directory ID, and of a name.
-const ID_LIMIT: usize = 36;
+// The most bytes of a directory ID.
+pub const ID_LIMIT: usize = 36;
 
-const NAME_LIMIT: usize = 255;
+// The most bytes of a name.
+pub const NAME_LIMIT: usize = 255;
 
 // The most characters of a full name that is stored as it is.
 const THRESHOLD: usize = 220;

@@ -1,4 +1,5 @@
 // The text of a directory's path.
+use crate::checks::ID_LIMIT;
 use crate::keyed::seal_under;
 use encoding::base32;
 use octets::slice::copy_at;
@@ -18,7 +19,7 @@ fn id_hash(enc: &[u8], mac: &[u8], id: &[u8]) -> [u8; 32]
     requires { ⌜ length (now id) ≤ spec.idLimit ⌝ }
     ensures { λ r. ⌜ r ≡ spec.idHash (now (enc .entry)) (now (mac .entry)) (now (id .entry)) ⌝ }
 {
-    let mut sealed = [0u8; 52];
+    let mut sealed = [0u8; ID_LIMIT + 16];
     seal_under(enc, mac, false, id, id, &mut sealed);
     let n = id.len() + 16;
     let mut text = [0u8; 32];

@@ -1,4 +1,5 @@
 // Full names and hash names, written and opened.
+use crate::checks::NAME_LIMIT;
 use crate::keyed::open_under;
 use crate::keyed::seal_under;
 use encoding::base64url;
@@ -9,7 +10,7 @@ ghost use mathlib.Core.Path.{_≡_};
 ghost use mathlib.Core.Bool.{true, cond};
 ghost use Prim.Native.Nat.{_≤_};
 ghost use lib.ListN.{length};
-ghost use Rattle.octets.specs.Bytes.{placed, same};
+ghost use Rattle.octets.specs.Bytes.{placed, filled, same};
 ghost use Rattle.siv_gcm.specs.SivGcm.{masterKeysRight};
 ghost use Rattle.name_spec.specs.Names as spec;
 ghost use Rattle.name_spec.specs.Calls.{hashLength};
@@ -28,7 +29,7 @@ pub fn write_full(enc: &[u8], mac: &[u8], id: &[u8], name: &[u8], out: &mut [u8]
     requires { ⌜ (length (now name) ≤ spec.nameLimit) × (spec.fullLength (length (now name)) ≤ length (now out)) ⌝ }
     ensures { λ _. ⌜ now (out .exit) ≡ placed (spec.fullName (now (enc .entry)) (now (mac .entry)) (now (id .entry)) (now (name .entry))) 0 (now (out .entry)) ⌝ }
 {
-    let mut sealed = [0u8; 271];
+    let mut sealed = [0u8; NAME_LIMIT + 16];
     seal_under(enc, mac, true, id, name, &mut sealed);
     let m = name.len() + 16;
     base64url::encode(&sealed[..m], true, out);
@@ -58,13 +59,13 @@ pub fn open_text(enc: &[u8], mac: &[u8], id: &[u8], text: &[u8], n: usize, out: 
     requires { ⌜ masterKeysRight (now enc) (now mac) ≡ true ⌝ }
     requires { ⌜ (spec.textRight (now text) ≡ true) × (n ≡ spec.nameLength (now text)) × (n ≤ length (now out)) ⌝ }
     ensures { λ r. ⌜ r ≡ spec.nameGood (now (enc .entry)) (now (mac .entry)) (now (id .entry)) (now (text .entry)) ⌝ }
-    ensures { λ r. ⌜ now (out .exit) ≡ cond r (placed (spec.nameOf (now (enc .entry)) (now (text .entry))) 0 (now (out .entry))) (now (out .entry)) ⌝ }
+    ensures { λ r. ⌜ now (out .exit) ≡ cond r (filled (spec.nameOf (now (enc .entry)) (now (text .entry))) (spec.nameLength (now (text .entry))) (now (out .entry))) (now (out .entry)) ⌝ }
 {
     let k = text.len() - 4;
-    let mut sealed = [0u8; 271];
+    let mut sealed = [0u8; NAME_LIMIT + 16];
     base64url::decode(&text[..k], true, &mut sealed);
     let m = n + 16;
-    let mut name = [0u8; 255];
+    let mut name = [0u8; NAME_LIMIT];
     if !open_under(enc, mac, id, &sealed[..m], &mut name) {
         return false;
     }

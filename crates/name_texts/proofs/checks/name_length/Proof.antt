@@ -74,13 +74,13 @@ enum-known-m : tie.Need-enum-known-m
 enum-known-m c = search needs
 
 returns-3 : tie.Need-returns-3
-returns-3 c = let k = c .before .before in too-few (k .before .before .before .before .before .before .before .before .before .before .args .text .now) (ended (k .before .before .before .before)) (k .m .given .0 .0) (facts k) (c .if3 .taken)
+returns-3 c = let k = c .before .before in too-few (k .before .before .before .before .before .before .before .before .before .before .args .text .now) (ended (k .before .before .before .before)) (k .m .given .0 .0) (facts k) (omega (arith, c .if3 .taken))
 
 add-if4 : tie.Need-add-if4
 add-if4 c = search needs
 
 returns-4 : tie.Need-returns-4
-returns-4 c = let k = c .before .before .before in too-many (k .before .before .before .before .before .before .before .before .before .before .args .text .now) (ended (k .before .before .before .before)) (k .m .given .0 .0) (facts k) (c .before .if3 .left) (c .if4 .taken)
+returns-4 c = let k = c .before .before .before in too-many (k .before .before .before .before .before .before .before .before .before .before .args .text .now) (ended (k .before .before .before .before)) (k .m .given .0 .0) (facts k) (omega (arith, c .before .if3 .left)) (omega (arith, c .if4 .taken))
 
 sub-result : tie.Need-sub-result
 sub-result c = search needs
@@ -91,7 +91,7 @@ returns-5 c =
     not-accepted t (ended (c .before .before .before .before)) (refused-text true (stem t) (sym (c .before .before .check .ensures) ∙ c .enum-told .given .1))
 
 returns-6 : tie.Need-returns-6
-returns-6 c = let k = c .before .before .before in in-form (k .before .before .before .before .before .before .before .before .before .before .args .text .now) (ended (k .before .before .before .before)) (k .m .given .0 .0) (facts k) (c .before .if3 .left) (c .if4 .left)
+returns-6 c = let k = c .before .before .before in in-form (k .before .before .before .before .before .before .before .before .before .before .args .text .now) (ended (k .before .before .before .before)) (k .m .given .0 .0) (facts k) (omega (arith, c .before .if3 .left)) (omega (arith, c .if4 .left))
 
 pub name-length-spec : {M : Type 1} → statement M
 name-length-spec =

@@ -12,7 +12,7 @@ use Rattle.aes_spec.specs.Cipher.{aes}
 use Rattle.siv.specs.Siv as siv
 use Rattle.name_spec.specs.Names.{sealedOf, nameLength, nameOf, nameGood}
 use Rattle.name_spec.proofs.Texts.{text-facts, text-size, length-name}
-use Rattle.name_texts.proofs.Placing.{front}
+use Rattle.name_texts.proofs.Placing.{front, placed-filled}
 use borrow.Author.Needs.{needs}
 use Rattle.name_texts.proofs.texts.open_text.Statement.{statement}
 use Rattle.name_texts.proofs.texts.open_text.Tie as tie
@@ -116,9 +116,11 @@ same-length c = search needs
 returns-2 : tie.Need-returns-2
 returns-2 c =
     let k = c .before .before .before .before .before .before .before in
-    let x = k .before .before .before .before .before .before .before .before .before .before .before .before .args in (
+    let x = k .before .before .before .before .before .before .before .before .before .before .before .before .args in
+    let t = x .text .now in (
       sym (not-false _ (c .before .before .before .before .before .if1 .left)) ∙ matches k,
-      c .before .before .copy-at .ensures ∙ ap (λ (l : List ℕ). placed l 0 (x .out .now)) (name k),
+      c .before .before .copy-at .ensures ∙ ap (λ (l : List ℕ). placed l 0 (x .out .now)) (name k)
+          ∙ placed-filled (nameOf (x .enc .now) t) (x .out .now) (nameLength t) (length-name (x .enc .now) t),
     )
 
 pub open-text-spec : {M : Type 1} → statement M

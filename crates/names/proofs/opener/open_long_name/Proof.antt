@@ -8,14 +8,12 @@ use native.Mathlib.Omega.{arith}
 use lib.Dec.{ltb}
 use lib.ListN.{length}
 use borrow.Author.Tests.{not-true, not-false, lt-ltb, le-ltb}
-use Rattle.octets.specs.Bytes.{placed, same}
+use Rattle.octets.specs.Bytes.{filled, same}
 use Rattle.octets.specs.Rows.{done, refused, ended}
 use Rattle.siv_gcm.specs.SivGcm.{masterKeysRight}
 use Rattle.name_spec.specs.Names.{idRight, hashName, short, textRight, nameLength, nameOf}
 use Rattle.name_spec.specs.Calls.{openLongNameRows}
-use Rattle.name_spec.proofs.Texts.{length-name}
 use Rattle.name_spec.proofs.Ends.{name-rows-exactly}
-use Rattle.name_texts.proofs.Placing.{placed-filled}
 use Rattle.name_texts.proofs.Measured.{form-broken, form-right}
 use borrow.Author.Needs.{needs}
 use Rattle.names.proofs.opener.open_long_name.Statement.{statement}
@@ -127,7 +125,7 @@ returns-7 c =
     let t = x .full .now in
     let u = c .before .before .before .open-text in
     let no = not-true _ (c .if7 .taken) in
-    ap (ended (refused 12)) (u .ensures .1 ∙ ap (λ (b : Bool). cond b (placed (nameOf (x .enc .now) t) 0 (x .out .now)) (x .out .now)) no)
+    ap (ended (refused 12)) (u .ensures .1 ∙ ap (λ (b : Bool). cond b (filled (nameOf (x .enc .now) t) (nameLength t) (x .out .now)) (x .out .now)) no)
     ∙ sym (exact .0 5 (omega arith) .1 (ap not (keys (k .before .before .before .before)), (ap not (right (k .before .before)), (ap not (form k .0), (roomy (c .before .before .before .before .before .before .before .before .before), (pair (c .before .before .before .before .before), ap not (sym (u .ensures .0) ∙ no)))))))
 
 same-length-2 : tie.Need-same-length-2
@@ -143,8 +141,7 @@ returns-8 c =
     let u = c .before .before .before .open-text in
     let ok = not-false _ (c .if7 .left) in
     ap₂ (λ (n : ℕ) (l : List ℕ). ended (done (n ∷ [])) l) (form k .1)
-    (u .ensures .1 ∙ ap (λ (b : Bool). cond b (placed (nameOf (x .enc .now) t) 0 (x .out .now)) (x .out .now)) ok
-    ∙ placed-filled (nameOf (x .enc .now) t) (x .out .now) (nameLength t) (length-name (x .enc .now) t))
+    (u .ensures .1 ∙ ap (λ (b : Bool). cond b (filled (nameOf (x .enc .now) t) (nameLength t) (x .out .now)) (x .out .now)) ok)
     ∙ sym (exact .1 .1 (ap not (keys (k .before .before .before .before)), (ap not (right (k .before .before)), (ap not (form k .0), (roomy (c .before .before .before .before .before .before .before .before .before), (pair (c .before .before .before .before .before), (ap not (sym (u .ensures .0) ∙ ok), tt)))))))
 
 pub open-long-name-spec : {M : Type 1} → statement M

@@ -8,14 +8,12 @@ use native.Mathlib.Omega.{arith}
 use lib.Dec.{ltb}
 use lib.ListN.{length}
 use borrow.Author.Tests.{not-true, not-false, lt-ltb, le-ltb}
-use Rattle.octets.specs.Bytes.{placed}
+use Rattle.octets.specs.Bytes.{filled}
 use Rattle.octets.specs.Rows.{done, refused, ended}
 use Rattle.siv_gcm.specs.SivGcm.{masterKeysRight}
 use Rattle.name_spec.specs.Names.{idRight, short, textRight, nameLength, nameOf}
 use Rattle.name_spec.specs.Calls.{openNameRows}
-use Rattle.name_spec.proofs.Texts.{length-name}
 use Rattle.name_spec.proofs.Ends.{name-rows-exactly}
-use Rattle.name_texts.proofs.Placing.{placed-filled}
 use Rattle.name_texts.proofs.Measured.{form-broken, form-right}
 use borrow.Author.Needs.{needs}
 use Rattle.names.proofs.opener.open_name.Statement.{statement}
@@ -116,7 +114,7 @@ returns-6 c =
     let t = x .stored .now in
     let u = c .before .before .before .open-text in
     let no = not-true _ (c .if6 .taken) in
-    ap (ended (refused 12)) (u .ensures .1 ∙ ap (λ (b : Bool). cond b (placed (nameOf (x .enc .now) t) 0 (x .out .now)) (x .out .now)) no)
+    ap (ended (refused 12)) (u .ensures .1 ∙ ap (λ (b : Bool). cond b (filled (nameOf (x .enc .now) t) (nameLength t) (x .out .now)) (x .out .now)) no)
     ∙ sym (exact .0 4 (omega arith) .1 (ap not (keys (k .before .before .before .before .before .before)), (ap not (right (k .before .before .before .before)), (text k, (roomy (c .before .before .before .before .before), ap not (sym (u .ensures .0) ∙ no))))))
 
 same-length-2 : tie.Need-same-length-2
@@ -132,8 +130,7 @@ returns-7 c =
     let u = c .before .before .before .open-text in
     let ok = not-false _ (c .if6 .left) in
     ap₂ (λ (n : ℕ) (l : List ℕ). ended (done (n ∷ [])) l) (form k .1)
-    (u .ensures .1 ∙ ap (λ (b : Bool). cond b (placed (nameOf (x .enc .now) t) 0 (x .out .now)) (x .out .now)) ok
-    ∙ placed-filled (nameOf (x .enc .now) t) (x .out .now) (nameLength t) (length-name (x .enc .now) t))
+    (u .ensures .1 ∙ ap (λ (b : Bool). cond b (filled (nameOf (x .enc .now) t) (nameLength t) (x .out .now)) (x .out .now)) ok)
     ∙ sym (exact .1 .1 (ap not (keys (k .before .before .before .before .before .before)), (ap not (right (k .before .before .before .before)), (text k, (roomy (c .before .before .before .before .before), (ap not (sym (u .ensures .0) ∙ ok), tt))))))
 
 pub open-name-spec : {M : Type 1} → statement M

@@ -50,10 +50,10 @@ unfolding dirPathRows
 returns-3 c =
     let x = c .before .before .before .before .before .before .before .before .before .args in
     let exact = name-rows-exactly (x .enc .now) (x .mac .now) (x .dir-id .now) .0 (x .out .now) in
-    sym (exact .0 2 (omega arith) .1 (ap not (keys (c .before .before .before)), (ap not (right (c .before)), lt-ltb (length (x .out .now)) pathLength (c .if3 .taken))))
+    sym (exact .0 2 (omega arith) .1 (ap not (keys (c .before .before .before)), (ap not (right (c .before)), lt-ltb (length (x .out .now)) pathLength (omega (arith, c .if3 .taken)))))
 
 write-path-requires : tie.Need-write-path-requires
-write-path-requires c κs = (keys (c .before .before .before .before), (id-size (c .before .before .before .before .before .before .before .before .before .before .args .dir-id .now) (right (c .before .before)), c .before .if3 .left))
+write-path-requires c κs = (keys (c .before .before .before .before), (id-size (c .before .before .before .before .before .before .before .before .before .before .args .dir-id .now) (right (c .before .before)), omega (arith, c .before .if3 .left)))
 
 same-length : tie.Need-same-length
 same-length c = search needs
@@ -66,7 +66,7 @@ returns-4 c =
     let exact = name-rows-exactly (x .enc .now) (x .mac .now) (x .dir-id .now) .0 (x .out .now) in
     let p = path (x .enc .now) (x .mac .now) (x .dir-id .now) in
     ap (ended (done (pathLength ∷ []))) (c .before .before .write-path .ensures ∙ placed-filled p (x .out .now) pathLength (length-path (x .enc .now) (x .mac .now) (x .dir-id .now)))
-    ∙ sym (exact .1 .1 (ap not (keys (k .before .before .before)), (ap not (right (k .before)), (le-ltb (length (x .out .now)) pathLength (k .if3 .left), tt))))
+    ∙ sym (exact .1 .1 (ap not (keys (k .before .before .before)), (ap not (right (k .before)), (le-ltb (length (x .out .now)) pathLength (omega (arith, k .if3 .left)), tt))))
 
 pub dir-path-spec : {M : Type 1} → statement M
 dir-path-spec =

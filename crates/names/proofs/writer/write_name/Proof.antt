@@ -119,7 +119,7 @@ returns-6 c =
     let k = c .before .before .before in
     let x = k .before .before .before .before .before .before .before .before .before .before .before .before .before .args in
     let exact = name-rows-exactly (x .enc .now) (x .mac .now) (x .dir-id .now) .1 (x .name .now) (x .stored .now) (x .full .now) in
-    let r = ap (lacksRoom (length (x .stored .now)) (length (x .full .now))) (sym (k .full-length .ensures)) ∙ stored-lacks (length (x .stored .now)) (length (x .full .now)) (k .full-length .result) (long (c .before)) (c .if6 .taken) in
+    let r = ap (lacksRoom (length (x .stored .now)) (length (x .full .now))) (sym (k .full-length .ensures)) ∙ stored-lacks (length (x .stored .now)) (length (x .full .now)) (k .full-length .result) (long (c .before)) (omega (arith, c .if6 .taken)) in
     sym (exact .0 3 (omega arith) .1 (ap not (keys (k .before .before .before .before .before)), (ap not (right (k .before .before .before)), (ap not (sized (k .before)), r))))
 
 returns-7 : tie.Need-returns-7
@@ -128,7 +128,7 @@ returns-7 c =
     let k = c .before .before .before .before in
     let x = k .before .before .before .before .before .before .before .before .before .before .before .before .before .args in
     let exact = name-rows-exactly (x .enc .now) (x .mac .now) (x .dir-id .now) .1 (x .name .now) (x .stored .now) (x .full .now) in
-    let r = ap (lacksRoom (length (x .stored .now)) (length (x .full .now))) (sym (k .full-length .ensures)) ∙ full-lacks (length (x .stored .now)) (length (x .full .now)) (k .full-length .result) (long (c .before .before)) (c .before .if6 .left) (c .if7 .taken) in
+    let r = ap (lacksRoom (length (x .stored .now)) (length (x .full .now))) (sym (k .full-length .ensures)) ∙ full-lacks (length (x .stored .now)) (length (x .full .now)) (k .full-length .result) (long (c .before .before)) (omega (arith, c .before .if6 .left)) (c .if7 .taken) in
     sym (exact .0 3 (omega arith) .1 (ap not (keys (k .before .before .before .before .before)), (ap not (right (k .before .before .before)), (ap not (sized (k .before)), r))))
 
 write-full-requires-2 : tie.Need-write-full-requires-2
@@ -164,7 +164,7 @@ returns-8 c =
     let f = fullName (x .enc .now) (x .mac .now) (x .dir-id .now) (x .name .now) in
     let w = c .before .before .before .before .before .before .before in
     let s = long (c .before .before .before .before .before .before .before .before .before .before .before) in
-    let r = ap (lacksRoom (length (x .stored .now)) (length (x .full .now))) (sym (k .full-length .ensures)) ∙ both-have (length (x .stored .now)) (length (x .full .now)) (k .full-length .result) s (c .before .before .before .before .before .before .before .before .before .before .if6 .left) (c .before .before .before .before .before .before .before .before .before .if7 .left) in
+    let r = ap (lacksRoom (length (x .stored .now)) (length (x .full .now))) (sym (k .full-length .ensures)) ∙ both-have (length (x .stored .now)) (length (x .full .now)) (k .full-length .result) s (omega (arith, c .before .before .before .before .before .before .before .before .before .before .if6 .left)) (c .before .before .before .before .before .before .before .before .before .if7 .left) in
     ap₂ (nameEnded (done (hashLength ∷ n ∷ [])))
     (c .before .before .write-hash .ensures ∙ ap (λ (l : List ℕ). placed (hashName l) 0 (x .stored .now)) (full-text w) ∙ placed-filled (hashName f) (x .stored .now) hashLength (length-hash f))
     (w .write-full2 .ensures ∙ placed-filled f (x .full .now) n (length-full (x .enc .now) (x .mac .now) (x .dir-id .now) (x .name .now) ∙ sym (k .full-length .ensures)))
