@@ -50,6 +50,7 @@ name-rows-exactly enc mac id = (
 -- ---- what is written where no row applies
 
 module _ (enc mac id name stored full : List ℕ) where
+  -- The name writer then ends in e.
   abbrev pub Written : NameEnd → Type 0
   Written e =
       let f = fullName enc mac id name in

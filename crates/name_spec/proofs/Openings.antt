@@ -18,7 +18,7 @@ use Rattle.siv.specs.Siv.{s2v}
 use Rattle.encoding.specs.Base64url.{encodedLength}
 use Rattle.name_spec.specs.Names.{threshold, fullName, fullLength, hashName, short, storedName, textRight, nameLength, nameOf, nameGood}
 use Rattle.name_spec.specs.Calls.{nameEnded, writeNameRows, openNameRows, openName, openLongNameRows, openLongName}
-use Rattle.name_spec.specs.Statements.{NameFits, Directory, NameWrittenOpens, NameOpensExactly, LongNameOpensExactly, MovedNameExactly, NamePoints}
+use Rattle.name_spec.specs.Statements.{NameFits, Directory, NameWrittenOpens, NameOpensExactly, LongNameOpensExactly, MovedNameExactly, OneName, NamePoints}
 use Rattle.name_spec.proofs.Texts.{name-sizes, length-hash, length-full, full-length, full-right, full-name, full-good, name-fits, was-full}
 use Rattle.name_spec.proofs.Ends.{name-rows-exactly, plain-written, long-written}
 
@@ -142,6 +142,9 @@ long-name-opens-exactly enc mac id s t out d room = ((was-written, λ w. (length
           leb-false (length t) threshold (pair .0),
           same-eq s (hashName t) (not-false (same s (hashName t)) (pair .1)),
         )
+
+pub one-name : OneName
+one-name enc mac id other a b be bm fa fb e = sym (full-name enc mac id a be bm fa) ∙ ap (nameOf enc) e ∙ full-name enc mac other b be bm fb
 
 -- ---- what is written opens
 

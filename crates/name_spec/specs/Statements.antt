@@ -102,6 +102,11 @@ module _ (enc mac id : List ℕ) where
       → ((openLongName enc mac id (hashName f) f out ≡ ended (refused 12) out) ↔ (matches ≡ false))
       × ((openLongName enc mac id (hashName f) f out ≡ opened) ↔ (matches ≡ true)))
 
+-- A full name is that of one name only, whatever the directory.
+abbrev pub OneName : Type 0
+OneName =
+    (enc mac id other a b : List ℕ) → Bytes enc → Bytes mac → NameFits a → NameFits b → fullName enc mac id a ≡ fullName enc mac other b → a ≡ b
+
 -- Points: a name of 146 bytes has a full name of 220 characters and is stored as it is, one of 147 bytes has 224 and is shortened.
 abbrev pub NamePoints : Type 0
 NamePoints =
