@@ -27,6 +27,7 @@ abbrev pub meaning : Answer → Outcome
 meaning (Done n) = done (n ∷ [])
 meaning (Refused r) = row r
 
+-- One length: the full name is stored; two: its hash name is.
 abbrev pub nameMeaning : NameAnswer → Outcome
 nameMeaning (name.Plain n) = done (n ∷ [])
 nameMeaning (name.Shortened stored full) = done (stored ∷ full ∷ [])

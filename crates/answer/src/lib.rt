@@ -22,7 +22,8 @@ pub enum Answer {
     Refused(Refusal),
 }
 
-/// A name was written as it is stored, with its length; or shortened, with the lengths of the stored and of the full name; or refused.
+/// `Plain`: the full name is stored, with its length. `Shortened`: its hash name is stored, with the lengths of the hash name and of the
+/// full name. Or refused.
 pub enum NameAnswer {
     Plain(usize),
     Shortened(usize, usize),

@@ -97,6 +97,9 @@ module _ (enc mac id : List ℕ) (d : Directory enc mac id) where
     long-opens room h = long-end enc mac id id name out d fits room true (good name fits) h
 
     -- The room that the text asks for is that of the name.
+    right-of : (t : List ℕ) → fullName enc mac id name ≡ t → textRight t ≡ true
+    right-of t e = ap textRight (sym e) ∙ full-right enc mac id name (d .enc-bytes) (d .mac-bytes) fits
+
     room-of : (t : List ℕ) → fullName enc mac id name ≡ t → nameLength t ≤ length out → length name ≤ length out
     room-of t e room = omega (arith, ap nameLength e, full-length enc mac id name (d .enc-bytes) (d .mac-bytes) fits, room)
 
@@ -107,7 +110,7 @@ name-opens-exactly enc mac id t out d room = ((was-written, λ w. (length (w .0)
     opens : (name : List ℕ) → NameFits name → fullName enc mac id name ≡ t → length t ≤ threshold → openName enc mac id t out ≡ ended (done (length name ∷ [])) (filled name (length name) out)
     opens name fits e h =
         ap (λ (x : List ℕ). openName enc mac id x out) (sym e)
-        ∙ plain-opens enc mac id d name out fits (room-of enc mac id d name out fits t e room) (omega (arith, ap length e, h))
+        ∙ plain-opens enc mac id d name out fits (room-of enc mac id d name out fits t e (room (right-of enc mac id d name out fits t e) h)) (omega (arith, ap length e, h))
 
     was-written : Succeeded (openName enc mac id t out) → (name : List ℕ) × NameFits name × (fullName enc mac id name ≡ t) × (length t ≤ threshold)
     was-written s =
@@ -128,7 +131,7 @@ long-name-opens-exactly enc mac id s t out d room = ((was-written, λ w. (length
         → openLongName enc mac id s t out ≡ ended (done (length name ∷ [])) (filled name (length name) out)
     opens name fits e h q =
         ap₂ (λ (x y : List ℕ). openLongName enc mac id x y out) (q ∙ ap hashName (sym e)) (sym e)
-        ∙ long-opens enc mac id d name out fits (room-of enc mac id d name out fits t e room) (omega (arith, ap length e, h))
+        ∙ long-opens enc mac id d name out fits (room-of enc mac id d name out fits t e (room (right-of enc mac id d name out fits t e))) (omega (arith, ap length e, h))
 
     was-written : Succeeded (openLongName enc mac id s t out)
         → (name : List ℕ) × NameFits name × (fullName enc mac id name ≡ t) × (threshold < length t) × (s ≡ hashName t)

@@ -24,12 +24,12 @@ hashLength = 32
 abbrev pub storedLength : ℕ → ℕ
 storedLength n = cond (short n) n hashLength
 
--- The lengths that are written for a full name of n characters: a name that is stored as it is has one, a shortened one that of its hash
--- name and its own.
+-- The lengths that a success returns for a full name of n characters: that one, if it is stored as it is; otherwise that of the hash
+-- name, and then that of the full name.
 abbrev pub writtenLengths : ℕ → List ℕ
 writtenLengths n = cond (short n) (n ∷ []) (hashLength ∷ n ∷ [])
 
--- A buffer is shorter than its part of the answer; a name that is stored as it is needs no room for a full name.
+-- Row 7 of the name writer: no room for the stored name or, if it is shortened, for the full name.
 abbrev pub lacksRoom : ℕ → ℕ → ℕ → Bool
 lacksRoom storedRoom fullRoom n = ltb storedRoom (storedLength n) || (not (short n) && ltb fullRoom n)
 

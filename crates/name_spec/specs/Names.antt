@@ -38,7 +38,7 @@ unfoldable pub ascii : List ℕ → Bool
 ascii [] = true
 ascii (a ∷ s) = ltb a 128 && ascii s
 
--- A directory ID has 0 to 36 bytes, each below 128. The root's is empty.
+-- At most 36 bytes, all ASCII; the root directory has the empty ID.
 unfoldable pub idRight : List ℕ → Bool
 idRight id = leb (length id) idLimit && ascii id
 
@@ -68,15 +68,15 @@ hashEnd = 0x2e ∷ 0x63 ∷ 0x39 ∷ 0x73 ∷ []
 
 -- Under AES-256: CMAC with the MAC master key, counter mode with the encryption master key.
 module _ (enc mac : List ℕ) where
-  -- The directory ID is sealed with no associated data, ..
+  -- The directory ID is sealed with no associated data.
   unfoldable pub sealedId : List ℕ → List ℕ
   sealedId id = siv.seal (aes 8 mac) (aes 8 enc) [] id
 
-  -- .. then hashed and encoded.
+  -- What was sealed is hashed, and the digest encoded.
   unfoldable pub idHash : List ℕ → List ℕ
   idHash id = base32.encode (sha1 (sealedId id))
 
-  -- The path of a directory: its hash in two parts, of 2 and of 30 characters.
+  -- The path of a directory, from the vault's root on: its hash in two parts, of 2 and of 30 characters.
   unfoldable pub path : List ℕ → List ℕ
   path id = dataFolder ++ take 2 (idHash id) ++ slash ++ drop 2 (idHash id)
 
@@ -118,7 +118,7 @@ sealedOf t = base64url.decoded true (stem t)
 unfoldable pub nameLength : List ℕ → ℕ
 nameLength t = length (sealedOf t) - ivSize
 
--- The text form: the text ends in ".c9r"; before it stands base64url with padding, all its rules kept; and that stands for 17 to 271
+-- The text form: the text ends in ".c9r"; before it stands base64url with padding, which `accepted` defines (alphabet, padding, zero pad bits); and that stands for 17 to 271
 -- bytes, the lengths that a sealed name can have.
 unfoldable pub textRight : List ℕ → Bool
 textRight t =

@@ -11,7 +11,7 @@ use Rattle.octets.specs.Rows.{done, refused, Row, First, NoRow, outcomeAt, Ends
 use Rattle.aes_spec.specs.Cipher.{aes}
 use Rattle.siv.specs.Siv.{s2v}
 use Rattle.siv_gcm.specs.SivGcm.{masterKeysRight}
-use Rattle.name_spec.specs.Names.{nameLimit, threshold, idRight, path, fullName, fullLength, hashName, short, storedName, nameLength, nameOf}
+use Rattle.name_spec.specs.Names.{nameLimit, threshold, idRight, path, fullName, fullLength, hashName, short, storedName, textRight, nameLength, nameOf}
 use Rattle.name_spec.specs.Calls.{pathLength, hashLength, storedLength, writtenLengths, NameEnd, nameEnded, dirPathRows, dirPath, writeNameRows, writeName, openNameRows, openName, openLongNameRows, openLongName}
 
 -- A name of 1 to 255 bytes.
@@ -69,20 +69,20 @@ module _ (enc mac id : List ℕ) where
       → (e ≡ nameEnded (done (length (hashName f) ∷ length f ∷ [])) (filled (hashName f) (length (hashName f)) stored) (filled f (length f) full))
       × (openLongName enc mac id (hashName f) f into ≡ opened))
 
-  -- Given room, a text opens exactly when it has at most 220 characters and is the full name of some name in this directory; and then to
-  -- that name.
+  -- Given room, where the text form and the length are right, a text opens exactly when it has at most 220 characters and is the full name
+  -- of some name in this directory; and then to that name.
   abbrev pub NameOpensExactly : Type 0
   NameOpensExactly =
-      (t out : List ℕ) → Directory enc mac id → nameLength t ≤ length out
+      (t out : List ℕ) → Directory enc mac id → (textRight t ≡ true → length t ≤ threshold → nameLength t ≤ length out)
       → (Succeeded (openName enc mac id t out) ↔ ((name : List ℕ) × NameFits name × (fullName enc mac id name ≡ t) × (length t ≤ threshold)))
       × ((name : List ℕ) → NameFits name → fullName enc mac id name ≡ t → length t ≤ threshold
       → openName enc mac id t out ≡ ended (done (length name ∷ [])) (filled name (length name) out))
 
-  -- Given room, a stored name and a full name open exactly when the full name has more than 220 characters and is that of some name in this
+  -- Given room, where the text form is right, a stored name and a full name open exactly when the full name has more than 220 characters and is that of some name in this
   -- directory, and the stored name is its hash name; and then to that name.
   abbrev pub LongNameOpensExactly : Type 0
   LongNameOpensExactly =
-      (s t out : List ℕ) → Directory enc mac id → nameLength t ≤ length out
+      (s t out : List ℕ) → Directory enc mac id → (textRight t ≡ true → nameLength t ≤ length out)
       → (Succeeded (openLongName enc mac id s t out)
       ↔ ((name : List ℕ) × NameFits name × (fullName enc mac id name ≡ t) × (threshold < length t) × (s ≡ hashName t)))
       × ((name : List ℕ) → NameFits name → fullName enc mac id name ≡ t → threshold < length t → s ≡ hashName t
@@ -114,3 +114,14 @@ NamePoints =
     let f = fullName enc mac id name in
     (length name ≡ 146 → (length f ≡ 220) × (storedName f ≡ f) × (writtenLengths (length f) ≡ 220 ∷ []))
     × (length name ≡ 147 → (length f ≡ 224) × (storedName f ≡ hashName f) × (writtenLengths (length f) ≡ hashLength ∷ 224 ∷ []))
+
+-- Demand 1, of the calls on names and directory paths.
+abbrev pub NameDemandOne : Type 0
+NameDemandOne = (enc mac id : List ℕ) → NameRowsExactly enc mac id
+
+-- Demand 2, of names: reading gives back what was written, and nothing else is read.
+abbrev pub NameDemandTwo : Type 0
+NameDemandTwo =
+    ((enc mac id : List ℕ) → NameWrittenOpens enc mac id × NameOpensExactly enc mac id × LongNameOpensExactly enc mac id × MovedNameExactly enc mac id)
+    × OneName
+    × TextLengths

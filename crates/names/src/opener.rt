@@ -12,7 +12,7 @@ ghost use Rattle.octets.specs.Rows.{ended};
 ghost use Rattle.answer.specs.Meaning.{meaning};
 ghost use Rattle.name_spec.specs.Calls.{openName, openLongName};
 
-/// Opens a name that is stored as it is, in the directory with this ID.
+/// Opens a full name of at most 220 characters, which is stored unshortened, in the directory with this ID. Rows 1, 2, 5, 7, 12.
 pub fn open_name(enc: &[u8], mac: &[u8], dir_id: &[u8], stored: &[u8], out: &mut [u8]) -> Answer
     ensures { λ r. ⌜ ended (meaning r) (now (out .exit)) ≡ openName (now (enc .entry)) (now (mac .entry)) (now («dir_id» .entry)) (now (stored .entry)) (now (out .entry)) ⌝ }
 {
@@ -38,7 +38,7 @@ pub fn open_name(enc: &[u8], mac: &[u8], dir_id: &[u8], stored: &[u8], out: &mut
     Answer::Done(n)
 }
 
-/// Opens a shortened name, in the directory with this ID: what is stored, and its full name.
+/// Opens a shortened name from its hash name, as stored, and its full name, in the directory with this ID. Rows 1, 2, 5, 7, 11, 12.
 pub fn open_long_name(
     enc: &[u8],
     mac: &[u8],

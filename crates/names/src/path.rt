@@ -9,7 +9,7 @@ ghost use Rattle.octets.specs.Rows.{ended};
 ghost use Rattle.answer.specs.Meaning.{meaning};
 ghost use Rattle.name_spec.specs.Calls.{dirPath};
 
-/// Writes the path of the directory with this ID, 36 characters.
+/// Writes the path of the directory with this ID, 36 characters. Rows 1, 2, 7.
 pub fn dir_path(enc: &[u8], mac: &[u8], dir_id: &[u8], out: &mut [u8]) -> Answer
     ensures { λ r. ⌜ ended (meaning r) (now (out .exit)) ≡ dirPath (now (enc .entry)) (now (mac .entry)) (now («dir_id» .entry)) (now (out .entry)) ⌝ }
 {

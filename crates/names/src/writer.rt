@@ -13,6 +13,7 @@ ghost use Rattle.answer.specs.Meaning.{nameMeaning};
 ghost use Rattle.name_spec.specs.Calls.{nameEnded, writeName};
 
 /// Writes what is stored for the name in the directory with this ID, and for a shortened name its full name to the second buffer.
+/// Rows 1, 2, 3, 7.
 pub fn write_name(
     enc: &[u8],
     mac: &[u8],

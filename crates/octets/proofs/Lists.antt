@@ -76,7 +76,6 @@ part-rest l n a h = take-all (n - a) (drop a l) (rw length-drop (omega arith))
 pub placed-all : (s d : List ℕ) → length d ≡ length s → placed s 0 d ≡ s
 placed-all s d h = ap (λ (l : List ℕ). s ++ l) (drop-all (0 + length s) d (omega arith)) ∙ append-nil s
 
--- What is written, and what stands before it.
 -- v at the front of a buffer xs, and then c written to the part of it behind v.
 pub placed-rest : (v c d xs : List ℕ) (n : ℕ) → xs ≡ placed v 0 d → length v ≡ n → take n xs ++ (c ++ drop (length xs - n) (drop n xs)) ≡ v ++ c
 placed-rest v c d xs n e l =
@@ -90,6 +89,7 @@ placed-behind y t d n h k =
     let l : length (y ++ drop n d) ≤ n + length t = rw (length-append, length-drop) (omega arith) in
     rw (take-at y (drop n d) n h, drop-all (n + length t) (y ++ drop n d) l, append-nil)
 
+-- What is written, and what stands before it.
 pub take-placed : (s d : List ℕ) (at : ℕ) → at ≤ length d → take (at + length s) (placed s at d) ≡ take at d ++ s
 take-placed s d at h = take-at (take at d ++ s) (drop (at + length s) d) (at + length s) (simp (length-append, length-take-le at d h))
 
