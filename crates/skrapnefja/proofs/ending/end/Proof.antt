@@ -1,0 +1,36 @@
+-- `end`: a success writes its length, and a refusal leaves `length`.
+-- Assumes nothing.
+use borrow.Author.Needs.{needs}
+use mathlib.Core.Path.{sym, ap, _∙_}
+use Rattle.octets.specs.Rows.{number}
+use Rattle.answer.specs.Meaning.{meaning}
+use Rattle.skrapnefja.specs.Results.{lengthAfter}
+use Rattle.skrapnefja.proofs.Refusals.{keeps-length}
+use Rattle.answer.specs.declared.Answer.{Answer}
+use Rattle.skrapnefja.proofs.ending.end.Statement.{statement}
+use Rattle.skrapnefja.proofs.ending.end.Tie as tie
+
+enum-known-answer : tie.Need-enum-known-answer
+enum-known-answer c = search needs
+
+enum-known-answer-2 : tie.Need-enum-known-answer-2
+enum-known-answer-2 c = search needs
+
+row-number-requires : tie.Need-row-number-requires
+row-number-requires c κs = search needs
+
+returns : tie.Need-returns
+returns c = search needs
+
+returns-2 : tie.Need-returns-2
+returns-2 c =
+    let x = c .before .before .before .before .args in
+    let e = c .before .before .answer2 .given .1 in (
+      c .row-number .ensures ∙ sym (ap (λ (a : Answer). number (meaning a)) e),
+      sym (ap (λ (a : Answer). lengthAfter (meaning a) (x .length .now)) e ∙ keeps-length (c .before .before .answer2 .given .0 .0) (x .length .now)),
+    )
+
+pub end-spec : {M : Type 1} → statement M
+end-spec =
+    tie.close
+    (tie.spec enum-known-answer enum-known-answer-2 row-number-requires returns returns-2)

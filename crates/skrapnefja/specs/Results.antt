@@ -1,0 +1,73 @@
+-- What an exported function leaves, by what its call ends in: the number that it returns, 0 for done and else the row; its buffers; and the
+-- numbers that it is lent to write to.
+-- Assumes nothing.
+use Prim.Native.Nat.{ℕ}
+use mathlib.Core.List.{List, [], _∷_}
+use Rattle.octets.specs.Rows.{Outcome, done, refused, refusedAt, number, End}
+use Rattle.name_spec.specs.Calls.{NameEnd}
+
+-- ---- the numbers, by what they were before
+
+-- `length`: the length written on success; a refusal leaves it.
+abbrev pub lengthAfter : Outcome → ℕ → ℕ
+lengthAfter (done []) before = before
+lengthAfter (done (n ∷ lengths)) before = n
+lengthAfter (refused row) before = before
+lengthAfter (refusedAt row i) before = before
+
+-- `full_length`: the length of a shortened name's full name, 0 for a name that is stored as it is; a refusal leaves it.
+abbrev pub fullLengthAfter : Outcome → ℕ → ℕ
+fullLengthAfter (done []) before = 0
+fullLengthAfter (done (n ∷ [])) before = 0
+fullLengthAfter (done (n ∷ full ∷ lengths)) before = full
+fullLengthAfter (refused row) before = before
+fullLengthAfter (refusedAt row i) before = before
+
+-- `at`: the number that a row returns, as row 10 does that of a chunk; any other outcome leaves it.
+abbrev pub atAfter : Outcome → ℕ → ℕ
+atAfter (done lengths) before = before
+atAfter (refused row) before = before
+atAfter (refusedAt row i) before = i
+
+-- ---- a call with one buffer
+
+pub record Result : Type 0 where
+  pub returned : ℕ
+  pub buffer : List ℕ
+  pub length : ℕ
+
+abbrev pub result : ℕ → List ℕ → ℕ → Result
+result r b l = record { returned = r; buffer = b; length = l }
+
+unfoldable pub resultOf : End → ℕ → Result
+resultOf e l = result (number (e .outcome)) (e .buffer) (lengthAfter (e .outcome) l)
+
+-- ---- a call that reads chunks
+
+pub record ChunkResult : Type 0 where
+  pub returned : ℕ
+  pub buffer : List ℕ
+  pub length : ℕ
+  pub at : ℕ
+
+abbrev pub chunkResult : ℕ → List ℕ → ℕ → ℕ → ChunkResult
+chunkResult r b l a = record { returned = r; buffer = b; length = l; at = a }
+
+unfoldable pub chunkResultOf : End → ℕ → ℕ → ChunkResult
+chunkResultOf e l a = chunkResult (number (e .outcome)) (e .buffer) (lengthAfter (e .outcome) l) (atAfter (e .outcome) a)
+
+-- ---- the name writer
+
+pub record NameResult : Type 0 where
+  pub returned : ℕ
+  pub stored : List ℕ
+  pub full : List ℕ
+  pub length : ℕ
+  pub full-length : ℕ
+
+abbrev pub nameResult : ℕ → List ℕ → List ℕ → ℕ → ℕ → NameResult
+nameResult r s f l m = record { returned = r; stored = s; full = f; length = l; full-length = m }
+
+unfoldable pub nameResultOf : NameEnd → ℕ → ℕ → NameResult
+nameResultOf e l m =
+    nameResult (number (e .outcome)) (e .stored) (e .full) (lengthAfter (e .outcome) l) (fullLengthAfter (e .outcome) m)

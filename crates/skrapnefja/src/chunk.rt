@@ -1,0 +1,50 @@
+// A single chunk.
+use crate::ending::end;
+use crate::ending::end_at;
+use content::chunk::open_chunk;
+use content::chunk::write_chunk;
+ghost use mathlib.Core.Path.{_≡_};
+ghost use mathlib.Core.List.{List};
+ghost use Prim.Native.Nat.{ℕ};
+ghost use Rattle.frame.specs.Single.{writeChunk, openChunk};
+ghost use Rattle.siv_gcm.specs.SivGcm.{codec, headWith};
+ghost use Rattle.skrapnefja.specs.Results.{result, resultOf, chunkResult, chunkResultOf};
+
+// Writes the chunk of a number, a nonce and a cleartext of 1 to 32,768 bytes: 28 bytes more.
+#[no_mangle]
+pub extern "C" fn skrapnefja_write_chunk(
+    content_key: &[u8],
+    header_nonce: &[u8],
+    number: u64,
+    nonce: &[u8],
+    cleartext: &[u8],
+    out: &mut [u8],
+    length: &mut u64,
+) -> u32
+    ensures { λ r. ⌜ ((enc mac : List ℕ) → result r (now (out .exit)) (now (length .exit)) ≡ resultOf (writeChunk (codec enc mac) (headWith (now («header_nonce» .entry)) (now («content_key» .entry))) number (now (nonce .entry)) (now (cleartext .entry)) (now (out .entry))) (now (length .entry))) ⌝ }
+{
+    end(
+        write_chunk(content_key, header_nonce, number, nonce, cleartext, out),
+        length,
+    )
+}
+
+// Opens a chunk under its number: writes its cleartext, 28 bytes less.
+#[no_mangle]
+pub extern "C" fn skrapnefja_open_chunk(
+    content_key: &[u8],
+    header_nonce: &[u8],
+    number: u64,
+    chunk: &[u8],
+    out: &mut [u8],
+    length: &mut u64,
+    at: &mut u64,
+) -> u32
+    ensures { λ r. ⌜ ((enc mac : List ℕ) → chunkResult r (now (out .exit)) (now (length .exit)) (now (at .exit)) ≡ chunkResultOf (openChunk (codec enc mac) (headWith (now («header_nonce» .entry)) (now («content_key» .entry))) number (now (chunk .entry)) (now (out .entry))) (now (length .entry)) (now (at .entry))) ⌝ }
+{
+    end_at(
+        open_chunk(content_key, header_nonce, number, chunk, out),
+        length,
+        at,
+    )
+}

@@ -1,0 +1,79 @@
+// How a call ends: what it answers is written to the numbers it was lent, and the row is returned.
+use answer::Answer;
+use answer::NameAnswer;
+use answer::Refusal;
+ghost use mathlib.Core.Path.{_≡_};
+ghost use Rattle.octets.specs.Rows.{number};
+ghost use Rattle.answer.specs.Meaning.{row, meaning, nameMeaning};
+ghost use Rattle.skrapnefja.specs.Results.{lengthAfter, fullLengthAfter, atAfter};
+
+// The number of the row.
+fn row_number(refusal: Refusal) -> u32
+    ensures { λ r. ⌜ r ≡ number (row refusal) ⌝ }
+{
+    match refusal {
+        Refusal::KeyOrNonceSize => 1,
+        Refusal::DirectoryId => 2,
+        Refusal::NameSize => 3,
+        Refusal::Length => 4,
+        Refusal::Text => 5,
+        Refusal::Range => 6,
+        Refusal::Room => 7,
+        Refusal::RepeatedNonce => 8,
+        Refusal::Header => 9,
+        Refusal::Chunk(_) => 10,
+        Refusal::HashName => 11,
+        Refusal::SyntheticIv => 12,
+    }
+}
+
+// Ends a call that answers a length.
+pub fn end(answer: Answer, length: &mut u64) -> u32
+    ensures { λ r. ⌜ (r ≡ number (meaning answer)) × (now (length .exit) ≡ lengthAfter (meaning answer) (now (length .entry))) ⌝ }
+{
+    match answer {
+        Answer::Done(n) => {
+            *length = n as u64;
+            0
+        }
+        Answer::Refused(refusal) => row_number(refusal),
+    }
+}
+
+// Writes the number of the chunk that an answer names.
+fn name_chunk(answer: Answer, at: &mut u64)
+    ensures { λ _. ⌜ now (at .exit) ≡ atAfter (meaning answer) (now (at .entry)) ⌝ }
+{
+    if let Answer::Refused(refusal) = answer {
+        if let Refusal::Chunk(i) = refusal {
+            *at = i;
+        }
+    }
+}
+
+// Ends a call that reads chunks.
+pub fn end_at(answer: Answer, length: &mut u64, at: &mut u64) -> u32
+    ensures { λ r. ⌜ (r ≡ number (meaning answer)) × (now (length .exit) ≡ lengthAfter (meaning answer) (now (length .entry))) × (now (at .exit) ≡ atAfter (meaning answer) (now (at .entry))) ⌝ }
+{
+    name_chunk(answer, at);
+    end(answer, length)
+}
+
+// Ends the writing of a name.
+pub fn end_name(answer: NameAnswer, length: &mut u64, full_length: &mut u64) -> u32
+    ensures { λ r. ⌜ (r ≡ number (nameMeaning answer)) × (now (length .exit) ≡ lengthAfter (nameMeaning answer) (now (length .entry))) × (now («full_length» .exit) ≡ fullLengthAfter (nameMeaning answer) (now («full_length» .entry))) ⌝ }
+{
+    match answer {
+        NameAnswer::Plain(n) => {
+            *length = n as u64;
+            *full_length = 0;
+            0
+        }
+        NameAnswer::Shortened(n, full) => {
+            *length = n as u64;
+            *full_length = full as u64;
+            0
+        }
+        NameAnswer::Refused(refusal) => row_number(refusal),
+    }
+}

@@ -1,0 +1,75 @@
+// A whole file, and a range of one.
+use crate::ending::end;
+use crate::ending::end_at;
+use file_read::open_file;
+use file_read::read_range;
+use file_write::write_file;
+ghost use mathlib.Core.Path.{_≡_};
+ghost use Rattle.frame.specs.Frame.{writeFile, openFile, readRange};
+ghost use Rattle.siv_gcm.specs.SivGcm.{codec};
+ghost use Rattle.file_write.specs.Choices.{choice};
+ghost use Rattle.skrapnefja.specs.Results.{result, resultOf, chunkResult, chunkResultOf};
+
+// Writes the file of a cleartext; `chunk_nonces` has 12 bytes for each chunk, in order.
+#[no_mangle]
+pub extern "C" fn skrapnefja_write_file(
+    enc: &[u8],
+    mac: &[u8],
+    header_nonce: &[u8],
+    content_key: &[u8],
+    chunk_nonces: &[u8],
+    cleartext: &[u8],
+    out: &mut [u8],
+    length: &mut u64,
+) -> u32
+    ensures { λ r. ⌜ result r (now (out .exit)) (now (length .exit)) ≡ resultOf (writeFile (codec (now (enc .entry)) (now (mac .entry))) (choice (now («header_nonce» .entry)) (now («content_key» .entry)) (now («chunk_nonces» .entry)) (now (cleartext .entry))) (now (out .entry))) (now (length .entry)) ⌝ }
+{
+    end(
+        write_file(
+            enc,
+            mac,
+            header_nonce,
+            content_key,
+            chunk_nonces,
+            cleartext,
+            out,
+        ),
+        length,
+    )
+}
+
+// Opens a file.
+#[no_mangle]
+pub extern "C" fn skrapnefja_open_file(
+    enc: &[u8],
+    mac: &[u8],
+    file: &[u8],
+    out: &mut [u8],
+    length: &mut u64,
+    at: &mut u64,
+) -> u32
+    ensures { λ r. ⌜ chunkResult r (now (out .exit)) (now (length .exit)) (now (at .exit)) ≡ chunkResultOf (openFile (codec (now (enc .entry)) (now (mac .entry))) (now (file .entry)) (now (out .entry))) (now (length .entry)) (now (at .entry)) ⌝ }
+{
+    end_at(open_file(enc, mac, file, out), length, at)
+}
+
+// Reads count bytes of the cleartext of a file, from `from` on.
+#[no_mangle]
+pub extern "C" fn skrapnefja_read_range(
+    enc: &[u8],
+    mac: &[u8],
+    file: &[u8],
+    from: u64,
+    count: u64,
+    out: &mut [u8],
+    length: &mut u64,
+    at: &mut u64,
+) -> u32
+    ensures { λ r. ⌜ chunkResult r (now (out .exit)) (now (length .exit)) (now (at .exit)) ≡ chunkResultOf (readRange (codec (now (enc .entry)) (now (mac .entry))) (now (file .entry)) from count (now (out .entry))) (now (length .entry)) (now (at .entry)) ⌝ }
+{
+    end_at(
+        read_range(enc, mac, file, from as usize, count as usize, out),
+        length,
+        at,
+    )
+}

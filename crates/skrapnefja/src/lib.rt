@@ -1,0 +1,8 @@
+// The C boundary: every call of the library as an exported function. Each returns 0 for done, else the row of the refusal.
+// Results come last and are written only where said: a buffer and `length` on success, `at` with row 10.
+pub mod chunk;
+mod ending;
+pub mod file;
+pub mod header;
+pub mod lengths;
+pub mod name;
