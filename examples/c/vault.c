@@ -1,0 +1,149 @@
+/*
+ * Writes a vault file of two chunks and reads it back, then writes a name and opens it. Ends with status 0 if all is as expected.
+ * Keys and nonces are fixed here so that each run prints the same; a real program draws them from a random generator.
+ */
+#include <inttypes.h>
+#include <stdint.h>
+#include <stdio.h>
+#include <stdlib.h>
+#include <string.h>
+
+#include "skrapnefja.h"
+
+#define CLEAR_SIZE 40000 /* a whole chunk, and a second of 7,232 bytes */
+#define FILE_SIZE (SKRAPNEFJA_HEADER_SIZE + CLEAR_SIZE + 2 * SKRAPNEFJA_CHUNK_OVERHEAD)
+#define UNTOUCHED 0xA5
+
+static const uint8_t enc[SKRAPNEFJA_KEY_SIZE] = {1};
+static const uint8_t mac[SKRAPNEFJA_KEY_SIZE] = {2};
+
+static uint8_t cleartext[CLEAR_SIZE];
+static uint8_t file[FILE_SIZE];
+static uint8_t opened[CLEAR_SIZE];
+
+static void check(int holds, const char *what)
+{
+    if (!holds) {
+        printf("failed: %s\n", what);
+        exit(1);
+    }
+}
+
+static int all_untouched(const uint8_t *bytes, size_t count)
+{
+    size_t i;
+    for (i = 0; i < count; i++) {
+        if (bytes[i] != UNTOUCHED) {
+            return 0;
+        }
+    }
+    return 1;
+}
+
+static void write_the_file(void)
+{
+    static const uint8_t header_nonce[SKRAPNEFJA_NONCE_SIZE] = {3};
+    static const uint8_t content_key[SKRAPNEFJA_KEY_SIZE] = {4};
+    static const uint8_t chunk_nonces[2 * SKRAPNEFJA_NONCE_SIZE] = {5};
+    uint64_t length = 0;
+    size_t i;
+
+    for (i = 0; i < CLEAR_SIZE; i++) {
+        cleartext[i] = (uint8_t)(i % 251);
+    }
+    check(skrapnefja_file_length(CLEAR_SIZE, &length) == SKRAPNEFJA_DONE && length == FILE_SIZE, "length of the file");
+    length = 0;
+    check(skrapnefja_write_file(enc, sizeof enc, mac, sizeof mac, header_nonce, sizeof header_nonce, content_key,
+                                sizeof content_key, chunk_nonces, sizeof chunk_nonces, cleartext, sizeof cleartext, file,
+                                sizeof file, &length) == SKRAPNEFJA_DONE,
+          "writing the file");
+    check(length == FILE_SIZE, "length written");
+    printf("wrote a file of %" PRIu64 " bytes\n", length);
+}
+
+static void open_the_file(void)
+{
+    uint64_t length = 0;
+    uint64_t at = 77;
+
+    check(skrapnefja_open_file(enc, sizeof enc, mac, sizeof mac, file, sizeof file, opened, sizeof opened, &length, &at)
+              == SKRAPNEFJA_DONE,
+          "opening the file");
+    check(length == CLEAR_SIZE && at == 77 && memcmp(opened, cleartext, CLEAR_SIZE) == 0, "cleartext of the file");
+    printf("opened it: %" PRIu64 " bytes\n", length);
+}
+
+static void read_ranges(void)
+{
+    uint8_t out[24];
+    uint64_t from = SKRAPNEFJA_CHUNK_SIZE - 8;
+    uint64_t length = 0;
+    uint64_t at = 77;
+    uint32_t row;
+
+    memset(out, UNTOUCHED, sizeof out);
+    check(skrapnefja_read_range(enc, sizeof enc, mac, sizeof mac, file, sizeof file, from, 16, out, sizeof out, &length, &at)
+              == SKRAPNEFJA_DONE,
+          "reading across the border of the chunks");
+    check(length == 16 && at == 77 && memcmp(out, cleartext + from, 16) == 0, "bytes of the range");
+    check(all_untouched(out + 16, sizeof out - 16), "bytes behind the range");
+    printf("read %" PRIu64 " bytes from %" PRIu64 " on\n", length, from);
+
+    memset(out, UNTOUCHED, sizeof out);
+    length = 99;
+    row = skrapnefja_read_range(enc, sizeof enc, mac, sizeof mac, file, sizeof file, UINT64_MAX, 1, out, sizeof out, &length,
+                                &at);
+    check(row == SKRAPNEFJA_RANGE, "range far outside");
+    check(length == 99 && at == 77 && all_untouched(out, sizeof out), "a refusal changes nothing");
+    printf("read 1 byte from %" PRIu64 " on: refused %" PRIu32 "\n", UINT64_MAX, row);
+}
+
+static void damage_the_second_chunk(void)
+{
+    uint64_t length = 99;
+    uint64_t at = 77;
+    uint32_t row;
+
+    memset(opened, UNTOUCHED, sizeof opened);
+    file[FILE_SIZE - 1] ^= 1;
+    row = skrapnefja_open_file(enc, sizeof enc, mac, sizeof mac, file, sizeof file, opened, sizeof opened, &length, &at);
+    file[FILE_SIZE - 1] ^= 1;
+    check(row == SKRAPNEFJA_CHUNK && at == 1, "damaged chunk");
+    check(length == 99 && all_untouched(opened, sizeof opened), "no cleartext of a damaged file");
+    printf("opened it damaged: refused %" PRIu32 " at %" PRIu64 "\n", row, at);
+}
+
+static void write_and_open_a_name(void)
+{
+    static const char name[] = "timetable.txt";
+    const size_t name_size = sizeof name - 1;
+    const uint8_t *root = enc; /* the root's ID has no bytes, and its address may be any but null */
+    uint8_t stored[SKRAPNEFJA_STORED_NAME_MAX];
+    uint8_t full[SKRAPNEFJA_FULL_NAME_MAX];
+    uint8_t out[SKRAPNEFJA_NAME_MAX];
+    uint64_t stored_length = 0;
+    uint64_t full_length = 99;
+    uint64_t length = 0;
+
+    check(skrapnefja_write_name(enc, sizeof enc, mac, sizeof mac, root, 0, (const uint8_t *)name, name_size, stored,
+                                sizeof stored, full, sizeof full, &stored_length, &full_length) == SKRAPNEFJA_DONE,
+          "writing the name");
+    check(stored_length == 44 && full_length == 0, "lengths of the name");
+    printf("stored %s as %.*s\n", name, (int)stored_length, (const char *)stored);
+
+    check(skrapnefja_open_name(enc, sizeof enc, mac, sizeof mac, root, 0, stored, (size_t)stored_length, out, sizeof out,
+                               &length) == SKRAPNEFJA_DONE,
+          "opening the name");
+    check(length == name_size && memcmp(out, name, name_size) == 0, "the name");
+    printf("opened it: %.*s\n", (int)length, (const char *)out);
+}
+
+int main(void)
+{
+    write_the_file();
+    open_the_file();
+    read_ranges();
+    damage_the_second_chunk();
+    write_and_open_a_name();
+    return 0;
+}
