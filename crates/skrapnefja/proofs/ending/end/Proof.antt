@@ -5,7 +5,7 @@ use mathlib.Core.Path.{sym, ap, _∙_}
 use Rattle.octets.specs.Rows.{number}
 use Rattle.answer.specs.Meaning.{meaning}
 use Rattle.skrapnefja.specs.Results.{lengthAfter}
-use Rattle.skrapnefja.proofs.Refusals.{keeps-length}
+use Rattle.skrapnefja.proofs.Refusals.{keeps-lengths}
 use Rattle.answer.specs.declared.Answer.{Answer}
 use Rattle.skrapnefja.proofs.ending.end.Statement.{statement}
 use Rattle.skrapnefja.proofs.ending.end.Tie as tie
@@ -27,7 +27,7 @@ returns-2 c =
     let x = c .before .before .before .before .args in
     let e = c .before .before .answer2 .given .1 in (
       c .row-number .ensures ∙ sym (ap (λ (a : Answer). number (meaning a)) e),
-      sym (ap (λ (a : Answer). lengthAfter (meaning a) (x .length .now)) e ∙ keeps-length (c .before .before .answer2 .given .0 .0) (x .length .now)),
+      sym (ap (λ (a : Answer). lengthAfter (meaning a) (x .length .now)) e ∙ keeps-lengths (c .before .before .answer2 .given .0 .0) (x .length .now) .0),
     )
 
 pub end-spec : {M : Type 1} → statement M

@@ -5,7 +5,7 @@ use mathlib.Core.Path.{sym, ap, _∙_}
 use Rattle.octets.specs.Rows.{number}
 use Rattle.answer.specs.Meaning.{nameMeaning}
 use Rattle.skrapnefja.specs.Results.{lengthAfter, fullLengthAfter}
-use Rattle.skrapnefja.proofs.Refusals.{keeps-length, keeps-full-length}
+use Rattle.skrapnefja.proofs.Refusals.{keeps-lengths}
 use Rattle.answer.specs.declared.NameAnswer.{NameAnswer}
 use Rattle.skrapnefja.proofs.ending.end_name.Statement.{statement}
 use Rattle.skrapnefja.proofs.ending.end_name.Tie as tie
@@ -34,8 +34,8 @@ returns-3 c =
     let refusal = c .before .before .answer3 .given .0 .0 in
     let e = c .before .before .answer3 .given .1 in (
       c .row-number .ensures ∙ sym (ap (λ (a : NameAnswer). number (nameMeaning a)) e),
-      sym (ap (λ (a : NameAnswer). lengthAfter (nameMeaning a) (x .length .now)) e ∙ keeps-length refusal (x .length .now)),
-      sym (ap (λ (a : NameAnswer). fullLengthAfter (nameMeaning a) (x .full-length .now)) e ∙ keeps-full-length refusal (x .full-length .now)),
+      sym (ap (λ (a : NameAnswer). lengthAfter (nameMeaning a) (x .length .now)) e ∙ keeps-lengths refusal (x .length .now) .0),
+      sym (ap (λ (a : NameAnswer). fullLengthAfter (nameMeaning a) (x .full-length .now)) e ∙ keeps-lengths refusal (x .full-length .now) .1),
     )
 
 pub end-name-spec : {M : Type 1} → statement M
