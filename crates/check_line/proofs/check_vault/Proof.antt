@@ -1,0 +1,79 @@
+-- `check_vault`: the two tests of the size, and opening the three parts of the input.
+-- Assumes nothing.
+use mathlib.Core.Path.{refl, sym, ap, _∙_}
+use mathlib.Core.List.{List}
+use Prim.Native.Nat.{ℕ, _-_}
+use native.Mathlib.Omega.{arith}
+use borrow.Author.Tests.{lt-ltb, le-ltb}
+use lib.ListN.{length, take, drop}
+use lib.Seq.{length-take-le}
+use Rattle.octets.proofs.Lists.{part-rest}
+use Rattle.frame.specs.Frame.{openFile}
+use Rattle.siv_gcm.specs.SivGcm.{codec}
+use Rattle.check_line.specs.Check.{checkVault}
+use borrow.Author.Needs.{needs}
+use Rattle.check_line.proofs.check_vault.Statement.{statement}
+use Rattle.check_line.proofs.check_vault.Tie as tie
+
+returns : tie.Need-returns
+unfolding checkVault
+returns c = rw (lt-ltb (length (c .before .before .before .args .input .now)) 64 (c .if1 .taken))
+
+returns-2 : tie.Need-returns-2
+unfolding checkVault
+returns-2 c =
+    let n = length (c .before .before .before .before .args .input .now) in
+    rw (le-ltb n 64 (c .before .if1 .left), lt-ltb 65536 n (c .if2 .taken))
+
+slice-aggregate-enc : tie.Need-slice-aggregate-enc
+slice-aggregate-enc c = sym (length-take-le 32 (c .before .before .before .before .before .args .input .now) (omega (arith, c .before .before .if1 .left)))
+
+sub-mac : tie.Need-sub-mac
+sub-mac c = search needs
+
+part-mac-start : tie.Need-part-mac-start
+part-mac-start c = search needs
+
+part-mac-end : tie.Need-part-mac-end
+part-mac-end c = search needs
+
+sub-file : tie.Need-sub-file
+sub-file c = search needs
+
+part-file-start : tie.Need-part-file-start
+part-file-start c = search needs
+
+part-file-end : tie.Need-part-file-end
+part-file-end c = search needs
+
+open-file-requires : tie.Need-open-file-requires
+open-file-requires c κs = search needs
+
+same-length : tie.Need-same-length
+same-length c = search needs
+
+returns-3 : tie.Need-returns-3
+unfolding checkVault
+returns-3 c =
+    let x = c .before .before .before .before .before .before .before .before .before .before .before .args in
+    let n = length (x .input .now) in
+    rw (le-ltb n 64 (c .before .before .before .before .before .before .before .before .if1 .left), le-ltb 65536 n (c .before .before .before .before .before .before .before .if2 .left))
+    (c .before .before .open-file .ensures
+    ∙ ap (λ (f : List ℕ). openFile (codec (take 32 (x .input .now)) (take 32 (drop 32 (x .input .now)))) f (x .room .now)) (part-rest (x .input .now) n 64 refl))
+
+pub check-vault-spec : {M : Type 1} → statement M
+check-vault-spec =
+    tie.close
+    (tie.spec
+    returns
+    returns-2
+    slice-aggregate-enc
+    sub-mac
+    part-mac-start
+    part-mac-end
+    sub-file
+    part-file-start
+    part-file-end
+    open-file-requires
+    same-length
+    returns-3)

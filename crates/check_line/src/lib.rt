@@ -1,0 +1,43 @@
+// The line that tells how the check of a vault file ends.
+pub mod decimal;
+pub mod line;
+
+use crate::line::write_line;
+use answer::Answer;
+use answer::Refusal;
+use file_read::open_file;
+ghost use mathlib.Core.Path.{_≡_};
+ghost use Rattle.octets.specs.Rows.{ended};
+ghost use Rattle.answer.specs.Meaning.{meaning};
+ghost use Rattle.check_line.specs.Check.{checkVault, checked, check};
+
+// Opens the file behind its keys into room.
+fn check_vault(input: &[u8], room: &mut [u8]) -> Answer
+    ensures { λ r. ⌜ ended (meaning r) (now (room .exit)) ≡ checkVault (now (input .entry)) (now (room .entry)) ⌝ }
+{
+    if input.len() < 64 {
+        return Answer::Refused(Refusal::KeyOrNonceSize);
+    }
+    if input.len() > 65536 {
+        return Answer::Refused(Refusal::Length);
+    }
+    let enc = &input[..32];
+    let mac = &input[32..64];
+    let file = &input[64..];
+    open_file(enc, mac, file, room)
+}
+
+/// Checks the input, the encryption master key, the MAC master key and a file: writes the line that tells the outcome, and returns its length.
+/// The cleartext goes into room, which must be as long as the input, and line must have 25 bytes; else nothing is written, and 0 is returned.
+pub fn check_line(input: &[u8], room: &mut [u8], line: &mut [u8]) -> usize
+    ensures { λ r. ⌜ checked r (now (room .exit)) (now (line .exit)) ≡ check (now (input .entry)) (now (room .entry)) (now (line .entry)) ⌝ }
+{
+    if room.len() < input.len() {
+        return 0;
+    }
+    if line.len() < 25 {
+        return 0;
+    }
+    let answer = check_vault(input, room);
+    write_line(answer, line)
+}
