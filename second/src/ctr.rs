@@ -10,13 +10,37 @@ const GROUP: usize = 4;
 pub fn apply<const MIDDLE: usize>(cipher: &Aes<MIDDLE>, mut counter: u128, data: &mut [u8]) {
     let (groups, rest) = data.as_chunks_mut::<{ GROUP * BLOCK_LEN }>();
     for group in groups {
-        xor(group, &keystream::<GROUP, MIDDLE>(cipher, counter));
+        let blocks = keystream::<GROUP, MIDDLE>(cipher, counter);
+        xor(group, blocks.as_flattened());
         counter = counter.wrapping_add(GROUP as u128);
     }
     for block in rest.chunks_mut(BLOCK_LEN) {
-        xor(block, &keystream::<1, MIDDLE>(cipher, counter));
+        let blocks = keystream::<1, MIDDLE>(cipher, counter);
+        xor(block, blocks.as_flattened());
         counter = counter.wrapping_add(1);
     }
+}
+
+/// Like [`apply`] on a longer text, of which `data` is what follows the first
+/// `offset` bytes.
+pub fn apply_at<const MIDDLE: usize>(
+    cipher: &Aes<MIDDLE>,
+    counter: u128,
+    offset: usize,
+    data: &mut [u8],
+) {
+    let mut counter = counter.wrapping_add((offset / BLOCK_LEN) as u128);
+    let before = offset % BLOCK_LEN;
+    let mut rest = data;
+    if before > 0 {
+        let first_len = rest.len().min(BLOCK_LEN - before);
+        let (first, later) = rest.split_at_mut(first_len);
+        let [block] = keystream::<1, MIDDLE>(cipher, counter);
+        xor(first, &block[before..]);
+        counter = counter.wrapping_add(1);
+        rest = later;
+    }
+    apply(cipher, counter, rest);
 }
 
 /// Key stream blocks, with consecutive counters.
@@ -30,8 +54,8 @@ fn keystream<const N: usize, const MIDDLE: usize>(
 }
 
 /// Adds the key stream, of which the end may be left over.
-fn xor(data: &mut [u8], stream: &[[u8; BLOCK_LEN]]) {
-    for (byte, key) in data.iter_mut().zip(stream.as_flattened()) {
+fn xor(data: &mut [u8], stream: &[u8]) {
+    for (byte, key) in data.iter_mut().zip(stream) {
         *byte ^= key;
     }
 }
@@ -66,6 +90,21 @@ mod tests {
             for (i, block) in data.chunks(BLOCK_LEN).enumerate() {
                 let input = counter.wrapping_add(i as u128).to_be_bytes();
                 assert_eq!(block, &cipher.encrypt(&input)[..block.len()]);
+            }
+        }
+    }
+
+    #[test]
+    fn parts_are_parts_of_the_whole() {
+        let cipher = Aes256::new(&[7; 32]);
+        let counter = u128::MAX - 5;
+        let mut whole = [0; 150];
+        apply(&cipher, counter, &mut whole);
+        for start in 0..=whole.len() {
+            for end in start..=whole.len() {
+                let mut part = vec![0; end - start];
+                apply_at(&cipher, counter, start, &mut part);
+                assert_eq!(part, whole[start..end]);
             }
         }
     }

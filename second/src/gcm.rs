@@ -54,7 +54,7 @@ impl Aes256Gcm {
     /// If the data is longer than [`MAX_LEN`].
     pub fn encrypt(&self, nonce: &[u8; NONCE_LEN], aad: &[u8], data: &mut [u8]) -> [u8; TAG_LEN] {
         assert!(data.len() as u64 <= MAX_LEN, "plaintext too long for GCM");
-        self.apply_keystream(nonce, data);
+        self.apply_keystream(nonce, 0, data);
         self.tag(nonce, aad, data)
     }
 
@@ -68,11 +68,29 @@ impl Aes256Gcm {
         data: &mut [u8],
         tag: &[u8; TAG_LEN],
     ) -> bool {
-        let genuine = data.len() as u64 <= MAX_LEN && equal(&self.tag(nonce, aad, data), tag);
+        let genuine = self.verify(nonce, aad, data, tag);
         if genuine {
-            self.apply_keystream(nonce, data);
+            self.apply_keystream(nonce, 0, data);
         }
         genuine
+    }
+
+    /// Whether the tag is right.
+    #[must_use]
+    pub fn verify(
+        &self,
+        nonce: &[u8; NONCE_LEN],
+        aad: &[u8],
+        ciphertext: &[u8],
+        tag: &[u8; TAG_LEN],
+    ) -> bool {
+        ciphertext.len() as u64 <= MAX_LEN && equal(&self.tag(nonce, aad, ciphertext), tag)
+    }
+
+    /// Counter mode, from counter 2, on what follows the first `offset` bytes
+    /// of a message. Encrypts and decrypts.
+    pub fn apply_keystream(&self, nonce: &[u8; NONCE_LEN], offset: usize, data: &mut [u8]) {
+        ctr::apply_at(&self.cipher, first_counter(nonce) + 1, offset, data);
     }
 
     /// The tag of a ciphertext: its hash, encrypted with counter 1.
@@ -80,11 +98,6 @@ impl Aes256Gcm {
         let mut tag = self.hash_key.hash(aad, ciphertext);
         ctr::apply(&self.cipher, first_counter(nonce), &mut tag);
         tag
-    }
-
-    /// Counter mode, from counter 2. Encrypts and decrypts.
-    fn apply_keystream(&self, nonce: &[u8; NONCE_LEN], data: &mut [u8]) {
-        ctr::apply(&self.cipher, first_counter(nonce) + 1, data);
     }
 }
 

@@ -1,5 +1,6 @@
-//! AES with the modes GCM, CMAC and SIV, SHA-1 and text encodings in plain
-//! Rust, written from the standards that each module names.
+//! Cryptomator vaults (format 8, SIV_GCM) in plain Rust, and below them AES
+//! with the modes GCM, CMAC and SIV, SHA-1 and text encodings, written from
+//! the standards that each module names.
 //!
 //! AES and GHASH work by table lookups at places that depend on the key and
 //! the data, so the time they take can tell about them to a program that
@@ -17,3 +18,4 @@ pub mod ghash;
 pub mod hex;
 pub mod sha1;
 pub mod siv;
+pub mod vault;

@@ -1,0 +1,147 @@
+//! Names of entries, plain and shortened.
+
+use super::directory::check_id;
+use super::sizes::{put, room, MasterKeys};
+use super::text::{
+    full_len, full_name, hash_name, sealed_name, HASH_NAME_LEN, MAX_NAME_LEN, MAX_PLAIN_LEN,
+};
+use super::Refusal;
+use crate::siv::{self, IV_LEN};
+
+/// The lengths of a written name.
+#[derive(Clone, Copy, Debug, PartialEq, Eq)]
+pub enum WrittenName {
+    /// The full name is the stored name; the second buffer stays.
+    Plain(usize),
+    Shortened {
+        stored: usize,
+        full: usize,
+    },
+}
+
+pub fn write_name(
+    enc: &[u8],
+    mac: &[u8],
+    dir_id: &[u8],
+    name: &[u8],
+    stored: &mut [u8],
+    full: &mut [u8],
+) -> Result<WrittenName, Refusal> {
+    let keys = MasterKeys::new(enc, mac)?;
+    check_id(dir_id)?;
+    Refusal::NameSize.unless((1..=MAX_NAME_LEN).contains(&name.len()))?;
+    let length = full_len(name.len());
+    let plain = length <= MAX_PLAIN_LEN;
+    if plain {
+        room(stored, length)?;
+    } else {
+        room(stored, HASH_NAME_LEN)?;
+        room(full, length)?;
+    }
+
+    let text = full_name(&siv::seal(keys.mac, keys.enc, &[dir_id], name));
+    if plain {
+        return Ok(WrittenName::Plain(put(stored, text.as_bytes())));
+    }
+    Ok(WrittenName::Shortened {
+        stored: put(stored, hash_name(text.as_bytes()).as_bytes()),
+        full: put(full, text.as_bytes()),
+    })
+}
+
+pub fn open_name(
+    enc: &[u8],
+    mac: &[u8],
+    dir_id: &[u8],
+    stored: &[u8],
+    out: &mut [u8],
+) -> Result<usize, Refusal> {
+    let keys = MasterKeys::new(enc, mac)?;
+    check_id(dir_id)?;
+    Refusal::Text.unless(stored.len() <= MAX_PLAIN_LEN)?;
+    let sealed = sealed_name(stored).ok_or(Refusal::Text)?;
+    room(out, sealed.len() - IV_LEN)?;
+    open(&keys, dir_id, &sealed, out)
+}
+
+/// Opens a name by its stored name, the hash, and its full name.
+pub fn open_long_name(
+    enc: &[u8],
+    mac: &[u8],
+    dir_id: &[u8],
+    stored: &[u8],
+    full: &[u8],
+    out: &mut [u8],
+) -> Result<usize, Refusal> {
+    let keys = MasterKeys::new(enc, mac)?;
+    check_id(dir_id)?;
+    let sealed = sealed_name(full).ok_or(Refusal::Text)?;
+    room(out, sealed.len() - IV_LEN)?;
+    Refusal::HashName.unless(full.len() > MAX_PLAIN_LEN)?;
+    Refusal::HashName.unless(stored == hash_name(full).as_bytes())?;
+    open(&keys, dir_id, &sealed, out)
+}
+
+/// Row 12.
+fn open(keys: &MasterKeys, dir_id: &[u8], sealed: &[u8], out: &mut [u8]) -> Result<usize, Refusal> {
+    let name = siv::open(keys.mac, keys.enc, &[dir_id], sealed);
+    Ok(put(out, &name.ok_or(Refusal::SyntheticIv)?))
+}
+
+#[cfg(test)]
+mod tests {
+    use super::*;
+
+    const ENC: [u8; 32] = [1; 32];
+    const MAC: [u8; 32] = [2; 32];
+
+    #[test]
+    fn written_names_open() {
+        for len in 1..=MAX_NAME_LEN {
+            let name: Vec<_> = (0..len).map(|i| i as u8).collect();
+            let (mut stored, mut full, mut out) = ([0; 220], [0; 368], [0; 255]);
+            let written = write_name(&ENC, &MAC, b"id", &name, &mut stored, &mut full);
+            let opened = match written {
+                Ok(WrittenName::Plain(length)) => {
+                    assert_eq!((length, full), (full_len(len), [0; 368]));
+                    assert!(len <= 146);
+                    open_name(&ENC, &MAC, b"id", &stored[..length], &mut out)
+                }
+                Ok(WrittenName::Shortened {
+                    stored: short,
+                    full: length,
+                }) => {
+                    assert_eq!((short, length), (32, full_len(len)));
+                    let pair = (&stored[..short], &full[..length]);
+                    open_long_name(&ENC, &MAC, b"id", pair.0, pair.1, &mut out)
+                }
+                Err(refusal) => panic!("{refusal:?}"),
+            };
+            assert_eq!((opened, &out[..len]), (Ok(len), &name[..]));
+        }
+    }
+
+    /// The ID of the root is empty, yet there: not as for a path.
+    #[test]
+    fn root() {
+        let mut stored = [0; 220];
+        let written = write_name(&ENC, &MAC, b"", b"name", &mut stored, &mut []);
+        assert_eq!(written, Ok(WrittenName::Plain(32)));
+        let sealed = sealed_name(&stored[..32]).expect("a full name");
+        assert_eq!(
+            siv::open(&MAC, &ENC, &[b""], &sealed),
+            Some(b"name".to_vec())
+        );
+        assert_eq!(siv::open(&MAC, &ENC, &[], &sealed), None);
+    }
+
+    #[test]
+    fn moved() {
+        let mut stored = [0; 220];
+        let written = write_name(&ENC, &MAC, b"here", b"name", &mut stored, &mut []);
+        assert_eq!(written, Ok(WrittenName::Plain(32)));
+        let mut out = [7; 4];
+        let opened = open_name(&ENC, &MAC, b"there", &stored[..32], &mut out);
+        assert_eq!((opened, out), (Err(Refusal::SyntheticIv), [7; 4]));
+    }
+}

@@ -1,0 +1,60 @@
+//! The table of refusals.
+
+/// Why a call wrote nothing, by the rows of the table.
+#[derive(Clone, Copy, Debug, PartialEq, Eq)]
+pub enum Refusal {
+    /// A key is not 32 bytes, a nonce is not 12, or there are not 12 bytes of
+    /// nonces for each chunk.
+    KeyOrNonceSize,
+    /// The directory ID has more than 36 bytes, or one of 128 or more.
+    DirectoryId,
+    /// The name to write has no bytes or more than 255.
+    NameSize,
+    /// No file, header or chunk has this length.
+    Length,
+    /// The text form of the name is broken, or too long for a plain one.
+    Text,
+    /// The range ends behind the cleartext.
+    Range,
+    /// A buffer is shorter than its part of the answer.
+    Room,
+    /// Two chunks to write have the same nonce.
+    RepeatedNonce,
+    /// The header's tag is wrong, or its reserved bytes are.
+    Header,
+    /// The tag of the chunk with this number is wrong, and of none before it
+    /// that the call needs.
+    Chunk(u64),
+    /// The full name need not be shortened, or has another short name.
+    HashName,
+    /// The synthetic IV is not that of the name.
+    SyntheticIv,
+}
+
+impl Refusal {
+    pub fn row(self) -> u32 {
+        match self {
+            Refusal::KeyOrNonceSize => 1,
+            Refusal::DirectoryId => 2,
+            Refusal::NameSize => 3,
+            Refusal::Length => 4,
+            Refusal::Text => 5,
+            Refusal::Range => 6,
+            Refusal::Room => 7,
+            Refusal::RepeatedNonce => 8,
+            Refusal::Header => 9,
+            Refusal::Chunk(_) => 10,
+            Refusal::HashName => 11,
+            Refusal::SyntheticIv => 12,
+        }
+    }
+
+    /// For a row that applies unless the condition holds.
+    pub(super) fn unless(self, condition: bool) -> Result<(), Refusal> {
+        if condition {
+            Ok(())
+        } else {
+            Err(self)
+        }
+    }
+}
