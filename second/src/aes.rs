@@ -14,43 +14,49 @@ pub const BLOCK_LEN: usize = 16;
 
 type State = [u32; 4];
 
-/// An expanded key, for `MIDDLE` whole rounds and the last round.
-pub struct Aes<const MIDDLE: usize> {
-    first: State,
-    middle: [State; MIDDLE],
-    last: State,
+/// An expanded key: one round key more than there are rounds.
+pub struct Aes<const ROUND_KEYS: usize> {
+    round_keys: [State; ROUND_KEYS],
 }
 
-pub type Aes128 = Aes<9>;
-pub type Aes256 = Aes<13>;
+pub type Aes128 = Aes<11>;
+pub type Aes256 = Aes<15>;
 
 impl Aes128 {
     pub fn new(key: &[u8; 16]) -> Self {
-        let mut round_keys = [[0; 4]; 11];
-        expand(key, round_keys.as_flattened_mut());
-        let [first, middle @ .., last] = round_keys;
-        Aes {
-            first,
-            middle,
-            last,
-        }
+        Aes::expand(key)
     }
 }
 
 impl Aes256 {
     pub fn new(key: &[u8; KEY_LEN]) -> Self {
-        let mut round_keys = [[0; 4]; 15];
-        expand(key, round_keys.as_flattened_mut());
-        let [first, middle @ .., last] = round_keys;
-        Aes {
-            first,
-            middle,
-            last,
-        }
+        Aes::expand(key)
     }
 }
 
-impl<const MIDDLE: usize> Aes<MIDDLE> {
+impl<const ROUND_KEYS: usize> Aes<ROUND_KEYS> {
+    /// KeyExpansion, with a key of the size that has so many round keys.
+    fn expand(key: &[u8]) -> Self {
+        let key_words = key.len() / 4;
+        let mut round_keys = [[0; 4]; ROUND_KEYS];
+        let words = round_keys.as_flattened_mut();
+        for (word, bytes) in words.iter_mut().zip(key.as_chunks().0) {
+            *word = u32::from_be_bytes(*bytes);
+        }
+        let mut round_constant = 1;
+        for i in key_words..words.len() {
+            let mut word = words[i - 1];
+            if i % key_words == 0 {
+                word = sub_word(word.rotate_left(8)) ^ u32::from(round_constant) << 24;
+                round_constant = double(round_constant);
+            } else if key_words == 8 && i % key_words == 4 {
+                word = sub_word(word);
+            }
+            words[i] = words[i - key_words] ^ word;
+        }
+        Aes { round_keys }
+    }
+
     pub fn encrypt(&self, block: &[u8; BLOCK_LEN]) -> [u8; BLOCK_LEN] {
         let mut blocks = [*block];
         self.encrypt_blocks(&mut blocks);
@@ -61,32 +67,16 @@ impl<const MIDDLE: usize> Aes<MIDDLE> {
     /// together, which keeps more lookups under way than one block can.
     #[inline]
     pub fn encrypt_blocks<const N: usize>(&self, blocks: &mut [[u8; BLOCK_LEN]; N]) {
-        let mut states = blocks.map(|block| add(to_state(&block), &self.first));
-        for round_key in &self.middle {
+        let [first, middle @ .., last] = &self.round_keys[..] else {
+            unreachable!("there are 11 or 15 round keys");
+        };
+        let mut states = blocks.map(|block| add(to_state(&block), first));
+        for round_key in middle {
             for state in &mut states {
                 *state = add(round(*state), round_key);
             }
         }
-        *blocks = states.map(|state| to_bytes(add(last_round(state), &self.last)));
-    }
-}
-
-/// KeyExpansion: writes the words of all round keys.
-fn expand(key: &[u8], words: &mut [u32]) {
-    let key_words = key.len() / 4;
-    for (word, bytes) in words.iter_mut().zip(key.as_chunks().0) {
-        *word = u32::from_be_bytes(*bytes);
-    }
-    let mut round_constant = 1;
-    for i in key_words..words.len() {
-        let mut word = words[i - 1];
-        if i % key_words == 0 {
-            word = sub_word(word.rotate_left(8)) ^ u32::from(round_constant) << 24;
-            round_constant = double(round_constant);
-        } else if key_words == 8 && i % key_words == 4 {
-            word = sub_word(word);
-        }
-        words[i] = words[i - key_words] ^ word;
+        *blocks = states.map(|state| to_bytes(add(last_round(state), last)));
     }
 }
 
@@ -147,8 +137,8 @@ mod tests {
         let cipher = Aes128::new(&key);
         let second = [0xa0fafe17, 0x88542cb1, 0x23a33939, 0x2a6c7605];
         let last = [0xd014f9a8, 0xc9ee2589, 0xe13f0cc8, 0xb6630ca6];
-        assert_eq!(cipher.middle[0], second);
-        assert_eq!(cipher.last, last);
+        assert_eq!(cipher.round_keys[1], second);
+        assert_eq!(cipher.round_keys.last(), Some(&last));
     }
 
     /// FIPS 197, appendix A.3.
@@ -162,8 +152,8 @@ mod tests {
         let cipher = Aes256::new(&key);
         let third = [0x9ba35411, 0x8e6925af, 0xa51a8b5f, 0x2067fcde];
         let last = [0xfe4890d1, 0xe6188d0b, 0x046df344, 0x706c631e];
-        assert_eq!(cipher.middle[1], third);
-        assert_eq!(cipher.last, last);
+        assert_eq!(cipher.round_keys[2], third);
+        assert_eq!(cipher.round_keys.last(), Some(&last));
     }
 
     /// FIPS 197, appendices C.1 and C.3.

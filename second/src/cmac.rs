@@ -12,14 +12,14 @@ pub fn mac(key: &[u8; KEY_LEN], message: &[u8]) -> [u8; MAC_LEN] {
 }
 
 /// A key made ready for many messages.
-pub struct Cmac<const MIDDLE: usize> {
-    cipher: Aes<MIDDLE>,
+pub struct Cmac<const ROUND_KEYS: usize> {
+    cipher: Aes<ROUND_KEYS>,
     whole_key: u128,
     padded_key: u128,
 }
 
-impl<const MIDDLE: usize> Cmac<MIDDLE> {
-    pub fn new(cipher: Aes<MIDDLE>) -> Self {
+impl<const ROUND_KEYS: usize> Cmac<ROUND_KEYS> {
+    pub fn new(cipher: Aes<ROUND_KEYS>) -> Self {
         let zero = u128::from_be_bytes(cipher.encrypt(&[0; BLOCK_LEN]));
         let whole_key = double(zero);
         let padded_key = double(whole_key);

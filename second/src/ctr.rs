@@ -7,15 +7,19 @@ const GROUP: usize = 4;
 
 /// Encrypts or decrypts in place: the first block with the counter given, and
 /// each further one with the next counter.
-pub fn apply<const MIDDLE: usize>(cipher: &Aes<MIDDLE>, mut counter: u128, data: &mut [u8]) {
+pub fn apply<const ROUND_KEYS: usize>(
+    cipher: &Aes<ROUND_KEYS>,
+    mut counter: u128,
+    data: &mut [u8],
+) {
     let (groups, rest) = data.as_chunks_mut::<{ GROUP * BLOCK_LEN }>();
     for group in groups {
-        let blocks = keystream::<GROUP, MIDDLE>(cipher, counter);
+        let blocks = keystream::<GROUP, ROUND_KEYS>(cipher, counter);
         xor(group, blocks.as_flattened());
         counter = counter.wrapping_add(GROUP as u128);
     }
     for block in rest.chunks_mut(BLOCK_LEN) {
-        let blocks = keystream::<1, MIDDLE>(cipher, counter);
+        let blocks = keystream::<1, ROUND_KEYS>(cipher, counter);
         xor(block, blocks.as_flattened());
         counter = counter.wrapping_add(1);
     }
@@ -23,8 +27,8 @@ pub fn apply<const MIDDLE: usize>(cipher: &Aes<MIDDLE>, mut counter: u128, data:
 
 /// Like [`apply`] on a longer text, of which `data` is what follows the first
 /// `offset` bytes.
-pub fn apply_at<const MIDDLE: usize>(
-    cipher: &Aes<MIDDLE>,
+pub fn apply_at<const ROUND_KEYS: usize>(
+    cipher: &Aes<ROUND_KEYS>,
     counter: u128,
     offset: usize,
     data: &mut [u8],
@@ -35,7 +39,7 @@ pub fn apply_at<const MIDDLE: usize>(
     if before > 0 {
         let first_len = rest.len().min(BLOCK_LEN - before);
         let (first, later) = rest.split_at_mut(first_len);
-        let [block] = keystream::<1, MIDDLE>(cipher, counter);
+        let [block] = keystream::<1, ROUND_KEYS>(cipher, counter);
         xor(first, &block[before..]);
         counter = counter.wrapping_add(1);
         rest = later;
@@ -44,8 +48,8 @@ pub fn apply_at<const MIDDLE: usize>(
 }
 
 /// Key stream blocks, with consecutive counters.
-fn keystream<const N: usize, const MIDDLE: usize>(
-    cipher: &Aes<MIDDLE>,
+fn keystream<const N: usize, const ROUND_KEYS: usize>(
+    cipher: &Aes<ROUND_KEYS>,
     counter: u128,
 ) -> [[u8; BLOCK_LEN]; N] {
     let mut blocks = std::array::from_fn(|i| counter.wrapping_add(i as u128).to_be_bytes());

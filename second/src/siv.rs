@@ -37,14 +37,14 @@ pub fn open(
 }
 
 /// Two keys made ready for many messages.
-pub struct Siv<const MIDDLE: usize> {
-    mac: Cmac<MIDDLE>,
+pub struct Siv<const ROUND_KEYS: usize> {
+    mac: Cmac<ROUND_KEYS>,
     mac_of_zero: [u8; BLOCK_LEN],
-    cipher: Aes<MIDDLE>,
+    cipher: Aes<ROUND_KEYS>,
 }
 
-impl<const MIDDLE: usize> Siv<MIDDLE> {
-    pub fn new(mac_cipher: Aes<MIDDLE>, ctr_cipher: Aes<MIDDLE>) -> Self {
+impl<const ROUND_KEYS: usize> Siv<ROUND_KEYS> {
+    pub fn new(mac_cipher: Aes<ROUND_KEYS>, ctr_cipher: Aes<ROUND_KEYS>) -> Self {
         let mac = Cmac::new(mac_cipher);
         Siv {
             mac_of_zero: mac.mac(&[0; BLOCK_LEN]),
