@@ -1,0 +1,60 @@
+//! Writes a file and a name as a vault stores them, and reads both again.
+
+use skrapnefja::{Refusal, WrittenName};
+
+fn main() -> Result<(), Refusal> {
+    // A vault has its own master keys, and each file its own random content
+    // key and nonces. These here are for show only.
+    let (enc, mac) = ([1; 32], [2; 32]);
+    let (content_key, header_nonce) = ([3; 32], [4; 12]);
+
+    let cleartext = b"14:02 handset 7 takes train 12\n14:05 handset 7 stops train 12\n";
+    let chunks = cleartext.len().div_ceil(skrapnefja::CHUNK_LEN);
+    let chunk_nonces: Vec<_> = (0..chunks).flat_map(|i| [i as u8; 12]).collect();
+
+    let mut file = vec![0; skrapnefja::file_length(cleartext.len() as u64)?];
+    skrapnefja::write_file(
+        &enc,
+        &mac,
+        &header_nonce,
+        &content_key,
+        &chunk_nonces,
+        cleartext,
+        &mut file,
+    )?;
+    println!("{} bytes are stored in {}", cleartext.len(), file.len());
+
+    let mut opened = vec![0; skrapnefja::cleartext_length(file.len() as u64)?];
+    skrapnefja::open_file(&enc, &mac, &file, &mut opened)?;
+    assert_eq!(opened, cleartext);
+    print!("opened:\n{}", String::from_utf8_lossy(&opened));
+
+    let mut part = [0; 9];
+    skrapnefja::read_range(&enc, &mac, &file, 6, 9, &mut part)?;
+    println!("bytes 6 to 14: {}", String::from_utf8_lossy(&part));
+
+    let outside = skrapnefja::read_range(&enc, &mac, &file, u64::MAX, 1, &mut part);
+    if let Err(refusal) = outside {
+        println!("past the end: row {}, {refusal}", refusal.row());
+    }
+
+    let mut path = [0; skrapnefja::PATH_LEN];
+    skrapnefja::dir_path(&enc, &mac, b"", &mut path)?;
+    let mut stored = [0; skrapnefja::MAX_STORED_LEN];
+    let mut full = [0; skrapnefja::MAX_FULL_LEN];
+    let written = skrapnefja::write_name(&enc, &mac, b"", b"log.txt", &mut stored, &mut full)?;
+    let WrittenName::Plain(length) = written else {
+        unreachable!("a name of up to 146 bytes is stored as it is");
+    };
+    let stored = &stored[..length];
+    println!(
+        "stored as {}/{}",
+        String::from_utf8_lossy(&path),
+        String::from_utf8_lossy(stored)
+    );
+
+    let mut name = [0; skrapnefja::MAX_NAME_LEN];
+    let length = skrapnefja::open_name(&enc, &mac, b"", stored, &mut name)?;
+    println!("which is {}", String::from_utf8_lossy(&name[..length]));
+    Ok(())
+}

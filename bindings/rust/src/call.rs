@@ -1,0 +1,41 @@
+//! Calls of the library.
+
+/// Calls a function of [`ffi`](crate::ffi). Each argument is an input slice
+/// (`in`), a buffer (`out`), a number (`val`) or a result to set (`set`), in
+/// the function's own order.
+macro_rules! call {
+    ($function:ident: $($arguments:tt)*) => {
+        call!(@ $function () $($arguments)*)
+    };
+    (@ $function:ident ($($passed:expr,)*) in $slice:ident, $($rest:tt)*) => {
+        call!(@ $function ($($passed,)* $slice.as_ptr(), $slice.len(),) $($rest)*)
+    };
+    (@ $function:ident ($($passed:expr,)*) out $slice:ident, $($rest:tt)*) => {
+        call!(@ $function ($($passed,)* $slice.as_mut_ptr(), $slice.len(),) $($rest)*)
+    };
+    (@ $function:ident ($($passed:expr,)*) val $number:ident, $($rest:tt)*) => {
+        call!(@ $function ($($passed,)* $number,) $($rest)*)
+    };
+    (@ $function:ident ($($passed:expr,)*) set $result:ident, $($rest:tt)*) => {
+        call!(@ $function ($($passed,)* &mut $result,) $($rest)*)
+    };
+    (@ $function:ident ($($passed:expr,)*)) => {
+        // SAFETY: each pointer is that of a slice, with its length, or of a
+        // number. They are valid for the call, which keeps none of them, and
+        // what is borrowed mutably overlaps nothing else.
+        unsafe { crate::ffi::$function($($passed),*) }
+    };
+}
+
+pub(crate) use call;
+
+use crate::Refusal;
+
+/// The result of a call that gave this status, and the length that it set.
+/// The length is that of a slice, or at most that of the longest file.
+pub fn done(status: u32, length: u64, at: u64) -> Result<usize, Refusal> {
+    match status {
+        0 => Ok(length as usize),
+        row => Err(Refusal::new(row, at)),
+    }
+}

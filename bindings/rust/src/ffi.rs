@@ -1,0 +1,173 @@
+//! The functions of `libskrapnefja.a`, as `include/skrapnefja.h` declares them.
+//!
+//! A slice is a pointer and a length; the pointer may not be null, also if the
+//! length is 0. Each function gives 0 for done, or else the row of the
+//! refusal. It sets `length` and `full_length` only if it gives 0, and `at`
+//! only if it gives 10. No buffer or result may overlap anything else that is
+//! passed.
+
+extern "C" {
+    pub fn skrapnefja_write_header(
+        enc: *const u8,
+        enc_len: usize,
+        mac: *const u8,
+        mac_len: usize,
+        nonce: *const u8,
+        nonce_len: usize,
+        content_key: *const u8,
+        content_key_len: usize,
+        out: *mut u8,
+        out_len: usize,
+        length: *mut u64,
+    ) -> u32;
+
+    pub fn skrapnefja_open_header(
+        enc: *const u8,
+        enc_len: usize,
+        mac: *const u8,
+        mac_len: usize,
+        header: *const u8,
+        header_len: usize,
+        out: *mut u8,
+        out_len: usize,
+        length: *mut u64,
+    ) -> u32;
+
+    pub fn skrapnefja_write_chunk(
+        content_key: *const u8,
+        content_key_len: usize,
+        header_nonce: *const u8,
+        header_nonce_len: usize,
+        number: u64,
+        nonce: *const u8,
+        nonce_len: usize,
+        cleartext: *const u8,
+        cleartext_len: usize,
+        out: *mut u8,
+        out_len: usize,
+        length: *mut u64,
+    ) -> u32;
+
+    pub fn skrapnefja_open_chunk(
+        content_key: *const u8,
+        content_key_len: usize,
+        header_nonce: *const u8,
+        header_nonce_len: usize,
+        number: u64,
+        chunk: *const u8,
+        chunk_len: usize,
+        out: *mut u8,
+        out_len: usize,
+        length: *mut u64,
+        at: *mut u64,
+    ) -> u32;
+
+    pub fn skrapnefja_write_file(
+        enc: *const u8,
+        enc_len: usize,
+        mac: *const u8,
+        mac_len: usize,
+        header_nonce: *const u8,
+        header_nonce_len: usize,
+        content_key: *const u8,
+        content_key_len: usize,
+        chunk_nonces: *const u8,
+        chunk_nonces_len: usize,
+        cleartext: *const u8,
+        cleartext_len: usize,
+        out: *mut u8,
+        out_len: usize,
+        length: *mut u64,
+    ) -> u32;
+
+    pub fn skrapnefja_open_file(
+        enc: *const u8,
+        enc_len: usize,
+        mac: *const u8,
+        mac_len: usize,
+        file: *const u8,
+        file_len: usize,
+        out: *mut u8,
+        out_len: usize,
+        length: *mut u64,
+        at: *mut u64,
+    ) -> u32;
+
+    pub fn skrapnefja_read_range(
+        enc: *const u8,
+        enc_len: usize,
+        mac: *const u8,
+        mac_len: usize,
+        file: *const u8,
+        file_len: usize,
+        from: u64,
+        count: u64,
+        out: *mut u8,
+        out_len: usize,
+        length: *mut u64,
+        at: *mut u64,
+    ) -> u32;
+
+    pub fn skrapnefja_write_name(
+        enc: *const u8,
+        enc_len: usize,
+        mac: *const u8,
+        mac_len: usize,
+        dir_id: *const u8,
+        dir_id_len: usize,
+        name: *const u8,
+        name_len: usize,
+        stored: *mut u8,
+        stored_len: usize,
+        full: *mut u8,
+        full_len: usize,
+        length: *mut u64,
+        full_length: *mut u64,
+    ) -> u32;
+
+    pub fn skrapnefja_open_name(
+        enc: *const u8,
+        enc_len: usize,
+        mac: *const u8,
+        mac_len: usize,
+        dir_id: *const u8,
+        dir_id_len: usize,
+        stored: *const u8,
+        stored_len: usize,
+        out: *mut u8,
+        out_len: usize,
+        length: *mut u64,
+    ) -> u32;
+
+    pub fn skrapnefja_open_long_name(
+        enc: *const u8,
+        enc_len: usize,
+        mac: *const u8,
+        mac_len: usize,
+        dir_id: *const u8,
+        dir_id_len: usize,
+        stored: *const u8,
+        stored_len: usize,
+        full: *const u8,
+        full_len: usize,
+        out: *mut u8,
+        out_len: usize,
+        length: *mut u64,
+    ) -> u32;
+
+    pub fn skrapnefja_dir_path(
+        enc: *const u8,
+        enc_len: usize,
+        mac: *const u8,
+        mac_len: usize,
+        dir_id: *const u8,
+        dir_id_len: usize,
+        out: *mut u8,
+        out_len: usize,
+        length: *mut u64,
+    ) -> u32;
+
+    pub fn skrapnefja_file_length(cleartext_length: u64, length: *mut u64) -> u32;
+
+    pub fn skrapnefja_cleartext_length(file_length: u64, length: *mut u64) -> u32;
+}

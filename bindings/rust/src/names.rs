@@ -1,0 +1,90 @@
+//! Names of entries, and paths of directories.
+
+use crate::call::{call, done};
+use crate::Refusal;
+
+/// The longest name, in bytes.
+pub const MAX_NAME_LEN: usize = 255;
+
+/// The longest stored name.
+pub const MAX_STORED_LEN: usize = 220;
+
+/// The longest full name.
+pub const MAX_FULL_LEN: usize = 368;
+
+/// The bytes in the path of a directory.
+pub const PATH_LEN: usize = 36;
+
+/// The lengths of a written name.
+#[derive(Clone, Copy, Debug, PartialEq, Eq, Hash)]
+pub enum WrittenName {
+    /// The name is stored as it is, with this length.
+    Plain(usize),
+    /// The name was too long: what is stored is the hash of the full name.
+    Shortened {
+        /// The length of the stored name.
+        stored: usize,
+        /// The length of the full name, which goes into `name.c9s`.
+        full: usize,
+    },
+}
+
+/// Encrypts a name. The stored name goes to `stored`; if it is shortened, the
+/// full name goes to `full`, which otherwise stays and may be empty. Refused
+/// with rows 1, 2, 3 and 7.
+pub fn write_name(
+    enc: &[u8],
+    mac: &[u8],
+    dir_id: &[u8],
+    name: &[u8],
+    stored: &mut [u8],
+    full: &mut [u8],
+) -> Result<WrittenName, Refusal> {
+    let (mut length, mut full_length) = (0, 0);
+    let status = call!(skrapnefja_write_name:
+        in enc, in mac, in dir_id, in name, out stored, out full, set length, set full_length,);
+    let stored = done(status, length, 0)?;
+    Ok(match full_length as usize {
+        0 => WrittenName::Plain(stored),
+        full => WrittenName::Shortened { stored, full },
+    })
+}
+
+/// Writes the name that is stored as it is, and gives its length. Refused with
+/// rows 1, 2, 5, 7 and 12.
+pub fn open_name(
+    enc: &[u8],
+    mac: &[u8],
+    dir_id: &[u8],
+    stored: &[u8],
+    out: &mut [u8],
+) -> Result<usize, Refusal> {
+    let mut length = 0;
+    let status = call!(skrapnefja_open_name:
+        in enc, in mac, in dir_id, in stored, out out, set length,);
+    done(status, length, 0)
+}
+
+/// Writes the name with this stored and this full name, and gives its length.
+/// Refused with rows 1, 2, 5, 7, 11 and 12.
+pub fn open_long_name(
+    enc: &[u8],
+    mac: &[u8],
+    dir_id: &[u8],
+    stored: &[u8],
+    full: &[u8],
+    out: &mut [u8],
+) -> Result<usize, Refusal> {
+    let mut length = 0;
+    let status = call!(skrapnefja_open_long_name:
+        in enc, in mac, in dir_id, in stored, in full, out out, set length,);
+    done(status, length, 0)
+}
+
+/// Writes the path of the directory with this ID below the vault's root, 36
+/// bytes, and gives their number. Refused with rows 1, 2 and 7.
+pub fn dir_path(enc: &[u8], mac: &[u8], dir_id: &[u8], out: &mut [u8]) -> Result<usize, Refusal> {
+    let mut length = 0;
+    let status = call!(skrapnefja_dir_path: in enc, in mac, in dir_id, out out, set length,);
+    done(status, length, 0)
+}

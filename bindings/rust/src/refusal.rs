@@ -1,0 +1,124 @@
+//! Why a call was refused.
+
+use std::error::Error;
+use std::fmt::{self, Display, Formatter};
+
+/// The twelve refusals, in the order in which a call tries those that speak of
+/// its input. A refused call has changed no buffer.
+#[derive(Clone, Copy, Debug, PartialEq, Eq, Hash)]
+pub enum Refusal {
+    /// Row 1: a key is not 32 bytes, a nonce is not 12, or there are not 12
+    /// bytes of nonces for each chunk.
+    KeyOrNonceSize,
+    /// Row 2: the directory ID has more than 36 bytes, or one of 128 or more.
+    DirectoryId,
+    /// Row 3: the name to write has no bytes, or more than 255.
+    NameSize,
+    /// Row 4: no file has this length, or the cleartext is over 16,777,216
+    /// bytes; a header is not 68 bytes; a chunk's cleartext is not 1 to 32,768
+    /// bytes, or its stored form not 29 to 32,796.
+    Length,
+    /// Row 5: the text of the (full) name is broken, or over 220 characters
+    /// where the name is stored as it is.
+    Text,
+    /// Row 6: the range ends behind the cleartext.
+    Range,
+    /// Row 7: a buffer is shorter than its part of the answer.
+    Room,
+    /// Row 8: two chunks to write have the same nonce.
+    RepeatedNonce,
+    /// Row 9: the header's tag is wrong, or its reserved bytes are.
+    Header,
+    /// Row 10: the tag of this chunk is wrong, and it is the lowest such
+    /// number of the chunks that the call needs.
+    Chunk(u64),
+    /// Row 11: the full name has 220 characters or fewer, or the stored name
+    /// isn't its hash name.
+    HashName,
+    /// Row 12: the synthetic IV doesn't match.
+    SyntheticIv,
+}
+
+impl Refusal {
+    /// The row of the table of refusals, from 1 to 12.
+    pub fn row(self) -> u32 {
+        match self {
+            Refusal::KeyOrNonceSize => 1,
+            Refusal::DirectoryId => 2,
+            Refusal::NameSize => 3,
+            Refusal::Length => 4,
+            Refusal::Text => 5,
+            Refusal::Range => 6,
+            Refusal::Room => 7,
+            Refusal::RepeatedNonce => 8,
+            Refusal::Header => 9,
+            Refusal::Chunk(_) => 10,
+            Refusal::HashName => 11,
+            Refusal::SyntheticIv => 12,
+        }
+    }
+
+    /// The refusal with this row, which is from 1 to 12, at this chunk.
+    pub(crate) fn new(row: u32, at: u64) -> Self {
+        match row {
+            1 => Refusal::KeyOrNonceSize,
+            2 => Refusal::DirectoryId,
+            3 => Refusal::NameSize,
+            4 => Refusal::Length,
+            5 => Refusal::Text,
+            6 => Refusal::Range,
+            7 => Refusal::Room,
+            8 => Refusal::RepeatedNonce,
+            9 => Refusal::Header,
+            10 => Refusal::Chunk(at),
+            11 => Refusal::HashName,
+            12 => Refusal::SyntheticIv,
+            _ => unreachable!("the library gives rows from 1 to 12, and not {row}"),
+        }
+    }
+}
+
+impl Display for Refusal {
+    fn fmt(&self, f: &mut Formatter) -> fmt::Result {
+        f.write_str(match self {
+            Refusal::KeyOrNonceSize => "a key or nonce has the wrong size",
+            Refusal::DirectoryId => "not a directory ID",
+            Refusal::NameSize => "the name is empty or too long",
+            Refusal::Length => "the length is wrong",
+            Refusal::Text => "not the text of an encrypted name",
+            Refusal::Range => "the range ends behind the cleartext",
+            Refusal::Room => "a buffer is too short",
+            Refusal::RepeatedNonce => "two chunks have the same nonce",
+            Refusal::Header => "the header is not genuine",
+            Refusal::Chunk(number) => return write!(f, "chunk {number} is not genuine"),
+            Refusal::HashName => "the full name does not belong to the stored name",
+            Refusal::SyntheticIv => "the name is not genuine",
+        })
+    }
+}
+
+impl Error for Refusal {}
+
+#[cfg(test)]
+mod tests {
+    use super::*;
+
+    #[test]
+    fn rows() {
+        for row in 1..=12 {
+            assert_eq!(Refusal::new(row, 7).row(), row);
+        }
+        assert_eq!(Refusal::new(10, u64::MAX), Refusal::Chunk(u64::MAX));
+    }
+
+    #[test]
+    fn texts() {
+        let mut texts: Vec<_> = (1..=12)
+            .map(|row| Refusal::new(row, 3).to_string())
+            .collect();
+        assert_eq!(texts[9], "chunk 3 is not genuine");
+        texts.sort();
+        texts.dedup();
+        assert_eq!(texts.len(), 12);
+    }
+}
