@@ -2,32 +2,32 @@
 
 /// Calls a function of [`ffi`](crate::ffi). Each argument is an input slice
 /// (`in`), a buffer (`out`), a number (`val`) or a result to set (`set`), in
-/// the function's own order.
+/// the function's own order. Exported for the comparisons only.
+#[doc(hidden)]
+#[macro_export]
 macro_rules! call {
     ($function:ident: $($arguments:tt)*) => {
-        call!(@ $function () $($arguments)*)
+        $crate::call!(@ $function () $($arguments)*)
     };
     (@ $function:ident ($($passed:expr,)*) in $slice:ident, $($rest:tt)*) => {
-        call!(@ $function ($($passed,)* $slice.as_ptr(), $slice.len(),) $($rest)*)
+        $crate::call!(@ $function ($($passed,)* $slice.as_ptr(), $slice.len(),) $($rest)*)
     };
     (@ $function:ident ($($passed:expr,)*) out $slice:ident, $($rest:tt)*) => {
-        call!(@ $function ($($passed,)* $slice.as_mut_ptr(), $slice.len(),) $($rest)*)
+        $crate::call!(@ $function ($($passed,)* $slice.as_mut_ptr(), $slice.len(),) $($rest)*)
     };
     (@ $function:ident ($($passed:expr,)*) val $number:ident, $($rest:tt)*) => {
-        call!(@ $function ($($passed,)* $number,) $($rest)*)
+        $crate::call!(@ $function ($($passed,)* $number,) $($rest)*)
     };
     (@ $function:ident ($($passed:expr,)*) set $result:ident, $($rest:tt)*) => {
-        call!(@ $function ($($passed,)* &mut $result,) $($rest)*)
+        $crate::call!(@ $function ($($passed,)* &mut $result,) $($rest)*)
     };
     (@ $function:ident ($($passed:expr,)*)) => {
         // SAFETY: each pointer is that of a slice, with its length, or of a
         // number. They are valid for the call, which keeps none of them, and
         // what is borrowed mutably overlaps nothing else.
-        unsafe { crate::ffi::$function($($passed),*) }
+        unsafe { $crate::ffi::$function($($passed),*) }
     };
 }
-
-pub(crate) use call;
 
 use crate::Refusal;
 

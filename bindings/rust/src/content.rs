@@ -1,6 +1,7 @@
 //! Headers, chunks, files and ranges.
 
-use crate::call::{call, done};
+use crate::call;
+use crate::call::done;
 use crate::Refusal;
 
 /// The bytes in a file header.

@@ -1,6 +1,7 @@
 //! Names of entries, and paths of directories.
 
-use crate::call::{call, done};
+use crate::call;
+use crate::call::done;
 use crate::Refusal;
 
 /// The longest name, in bytes.

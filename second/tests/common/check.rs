@@ -1,46 +1,47 @@
-//! Calls of the static library, compared with their prediction.
+//! Calls of the static library, compared with what they must do according to
+//! `second`.
 //!
 //! Each function fails the test if the status or any byte differs, and gives
 //! whether the call was done.
 
-use super::predict::{self, Outcome};
-use super::primitives::{self, DONE};
+use super::primitives::{self, DONE, REFUSED};
+use second::aes::Aes256;
+use second::{base32, base64url, cmac, gcm, sha1, siv};
+use std::slice;
+
+/// The longest cleartext that the static library seals and opens by SIV.
+pub const MAX_SIV_CLEARTEXT: usize = 1024;
+
+/// The bytes that the static library takes to base 32.
+pub const BASE32_DATA_LEN: usize = 20;
 
 /// Bytes before and after `out` that no call may change. The number is odd,
 /// so that `out` is at an odd address.
 const GUARD: [u8; 17] = *b"outside of buffer";
 
 pub fn aes256(key: &[u8], block: &[u8], out: &[u8]) -> bool {
-    let predicted = predict::aes256(key, block, out);
-    let actual = run(out, |out| primitives::aes256(key, block, out));
-    compare("aes256", &[key, block], &predicted, &actual)
+    let answer = sized(key, block).map(|(key, block)| Aes256::new(key).encrypt(block).to_vec());
+    let call = |out: &mut _| primitives::aes256(key, block, out);
+    compare("aes256", &[key, block], answer, out, call)
 }
 
 pub fn gcm_seal(key: &[u8], nonce: &[u8], aad: &[u8], cleartext: &[u8], out: &[u8]) -> bool {
-    let predicted = predict::gcm_seal(key, nonce, aad, cleartext, out);
-    let actual = run(out, |out| {
-        primitives::gcm_seal(key, nonce, aad, cleartext, out)
-    });
-    compare(
-        "gcm_seal",
-        &[key, nonce, aad, cleartext],
-        &predicted,
-        &actual,
-    )
+    let answer = sized(key, nonce).map(|(key, nonce)| gcm::seal(key, nonce, aad, cleartext));
+    let call = |out: &mut _| primitives::gcm_seal(key, nonce, aad, cleartext, out);
+    compare("gcm_seal", &[key, nonce, aad, cleartext], answer, out, call)
 }
 
 pub fn gcm_open(key: &[u8], nonce: &[u8], aad: &[u8], sealed: &[u8], out: &[u8]) -> bool {
-    let predicted = predict::gcm_open(key, nonce, aad, sealed, out);
-    let actual = run(out, |out| {
-        primitives::gcm_open(key, nonce, aad, sealed, out)
-    });
-    compare("gcm_open", &[key, nonce, aad, sealed], &predicted, &actual)
+    let answer = sized(key, nonce).and_then(|(key, nonce)| gcm::open(key, nonce, aad, sealed));
+    let call = |out: &mut _| primitives::gcm_open(key, nonce, aad, sealed, out);
+    compare("gcm_open", &[key, nonce, aad, sealed], answer, out, call)
 }
 
 pub fn cmac256(key: &[u8], message: &[u8], out: &[u8]) -> bool {
-    let predicted = predict::cmac256(key, message, out);
-    let actual = run(out, |out| primitives::cmac256(key, message, out));
-    compare("cmac256", &[key, message], &predicted, &actual)
+    let answer = key.try_into().ok();
+    let answer = answer.map(|key| cmac::mac(key, message).to_vec());
+    let call = |out: &mut _| primitives::cmac256(key, message, out);
+    compare("cmac256", &[key, message], answer, out, call)
 }
 
 pub fn siv_seal(
@@ -51,12 +52,13 @@ pub fn siv_seal(
     cleartext: &[u8],
     out: &[u8],
 ) -> bool {
-    let predicted = predict::siv_seal(mac_key, enc_key, ad_given, ad, cleartext, out);
-    let actual = run(out, |out| {
-        primitives::siv_seal(mac_key, enc_key, ad_given, ad, cleartext, out)
-    });
+    let fits = cleartext.len() <= MAX_SIV_CLEARTEXT;
+    let keys = sized(mac_key, enc_key).filter(|_| fits);
+    let strings = strings(ad_given, &ad);
+    let answer = keys.map(|(mac_key, enc_key)| siv::seal(mac_key, enc_key, strings, cleartext));
+    let call = |out: &mut _| primitives::siv_seal(mac_key, enc_key, ad_given, ad, cleartext, out);
     let inputs = [mac_key, enc_key, ad, cleartext];
-    compare("siv_seal", &inputs, &predicted, &actual)
+    compare("siv_seal", &inputs, answer, out, call)
 }
 
 pub fn siv_open(
@@ -67,66 +69,88 @@ pub fn siv_open(
     sealed: &[u8],
     out: &[u8],
 ) -> bool {
-    let predicted = predict::siv_open(mac_key, enc_key, ad_given, ad, sealed, out);
-    let actual = run(out, |out| {
-        primitives::siv_open(mac_key, enc_key, ad_given, ad, sealed, out)
-    });
+    let fits = sealed.len() <= siv::IV_LEN + MAX_SIV_CLEARTEXT;
+    let keys = sized(mac_key, enc_key).filter(|_| fits);
+    let strings = strings(ad_given, &ad);
+    let answer = keys.and_then(|(mac_key, enc_key)| siv::open(mac_key, enc_key, strings, sealed));
+    let call = |out: &mut _| primitives::siv_open(mac_key, enc_key, ad_given, ad, sealed, out);
     let inputs = [mac_key, enc_key, ad, sealed];
-    compare("siv_open", &inputs, &predicted, &actual)
+    compare("siv_open", &inputs, answer, out, call)
 }
 
 pub fn sha1(message: &[u8], out: &[u8]) -> bool {
-    let predicted = predict::sha1(message, out);
-    let actual = run(out, |out| primitives::sha1(message, out));
-    compare("sha1", &[message], &predicted, &actual)
+    let answer = sha1::digest(message).to_vec();
+    let call = |out: &mut _| primitives::sha1(message, out);
+    compare("sha1", &[message], Some(answer), out, call)
 }
 
 pub fn base32(data: &[u8], out: &[u8]) -> bool {
-    let predicted = predict::base32(data, out);
-    let actual = run(out, |out| primitives::base32(data, out));
-    compare("base32", &[data], &predicted, &actual)
+    let fits = data.len() == BASE32_DATA_LEN;
+    let answer = fits.then(|| base32::encode(data).into_bytes());
+    let call = |out: &mut _| primitives::base32(data, out);
+    compare("base32", &[data], answer, out, call)
 }
 
 pub fn base64url_encode(data: &[u8], padded: u32, out: &[u8]) -> bool {
-    let predicted = predict::base64url_encode(data, padded, out);
-    let actual = run(out, |out| primitives::base64url_encode(data, padded, out));
-    compare("base64url_encode", &[data], &predicted, &actual)
+    let answer = base64url::encode(data, padded != 0).into_bytes();
+    let call = |out: &mut _| primitives::base64url_encode(data, padded, out);
+    compare("base64url_encode", &[data], Some(answer), out, call)
 }
 
 pub fn base64url_decode(text: &[u8], padded: u32, out: &[u8], length: u64) -> bool {
-    let (predicted, later_length) = predict::base64url_decode(text, padded, out, length);
+    let answer = base64url::decode(text, padded != 0);
+    let decoded = answer.as_ref().map_or(0, Vec::len) as u64;
     let mut lengths = [!length, length, !length];
-    let actual = run(out, |out| {
-        primitives::base64url_decode(text, padded, out, &mut lengths[1])
-    });
-    let done = compare("base64url_decode", &[text], &predicted, &actual);
-    assert_eq!(lengths, [!length, later_length, !length], "wrong length");
+    let call = |out: &mut _| primitives::base64url_decode(text, padded, out, &mut lengths[1]);
+    let done = compare("base64url_decode", &[text], answer, out, call);
+    let later = if done { decoded } else { length };
+    assert_eq!(lengths, [!length, later, !length], "wrong length");
     done
 }
 
-/// Makes the call on a copy of `out` between two guards.
-fn run(out: &[u8], call: impl FnOnce(&mut [u8]) -> u32) -> Outcome {
-    let mut guarded = [&GUARD, out, &GUARD].concat();
-    let range = GUARD.len()..GUARD.len() + out.len();
-    let status = call(&mut guarded[range.clone()]);
-    assert_eq!(guarded[..range.start], GUARD, "changed before out");
-    assert_eq!(guarded[range.end..], GUARD, "changed after out");
-    let out = guarded[range].to_vec();
-    Outcome { status, out }
+/// Two inputs by their sizes.
+fn sized<'a, const M: usize, const N: usize>(
+    one: &'a [u8],
+    other: &'a [u8],
+) -> Option<(&'a [u8; M], &'a [u8; N])> {
+    Some((one.try_into().ok()?, other.try_into().ok()?))
 }
 
-fn compare(name: &str, inputs: &[&[u8]], predicted: &Outcome, actual: &Outcome) -> bool {
-    if predicted != actual {
+/// The list of associated data, of one string or none.
+fn strings<'a>(ad_given: u32, ad: &'a &'a [u8]) -> &'a [&'a [u8]] {
+    match ad_given {
+        0 => &[],
+        _ => slice::from_ref(ad),
+    }
+}
+
+/// Makes the call on a copy of `out` between two guards. The answer must go to
+/// its start, if there is one and it fits.
+fn compare(
+    name: &str,
+    inputs: &[&[u8]],
+    answer: Option<Vec<u8>>,
+    out: &[u8],
+    call: impl FnOnce(&mut [u8]) -> u32,
+) -> bool {
+    let mut predicted = [&GUARD, out, &GUARD].concat();
+    let mut actual = predicted.clone();
+    let range = GUARD.len()..GUARD.len() + out.len();
+    let answer = answer.filter(|answer| answer.len() <= out.len());
+    if let Some(answer) = &answer {
+        predicted[GUARD.len()..][..answer.len()].copy_from_slice(answer);
+    }
+    let right = if answer.is_some() { DONE } else { REFUSED };
+    let status = call(&mut actual[range]);
+    if status != right || predicted != actual {
         let lengths: Vec<_> = inputs.iter().map(|input| input.len()).collect();
-        let mut pairs = predicted.out.iter().zip(&actual.out);
+        let wrong = predicted.iter().zip(&actual).position(|(a, b)| a != b);
         panic!(
-            "{name} with inputs of {lengths:?} bytes and an out of {}: \
-             status {} and not {}, first wrong byte {:?}",
-            predicted.out.len(),
-            actual.status,
-            predicted.status,
-            pairs.position(|(a, b)| a != b),
+            "{name} with inputs of {lengths:?} bytes and an out of {}: status {status} and \
+             not {right}, first wrong byte {:?}",
+            out.len(),
+            wrong.map(|place| place as isize - GUARD.len() as isize),
         );
     }
-    actual.status == DONE
+    answer.is_some()
 }

@@ -1,7 +1,6 @@
 //! Base 32.
 
-use crate::common::check;
-use crate::common::predict::BASE32_DATA_LEN;
+use crate::common::check::{self, BASE32_DATA_LEN};
 use crate::common::random::Random;
 
 const TEXT_LEN: usize = 32;

@@ -6,7 +6,6 @@ mod common {
     pub mod check;
     pub mod damage;
     pub mod gcm_message;
-    pub mod predict;
     pub mod primitives;
     pub mod random;
     pub mod siv_message;

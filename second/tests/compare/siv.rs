@@ -1,7 +1,7 @@
 //! AES-256-SIV.
 
+use crate::common::check::MAX_SIV_CLEARTEXT;
 use crate::common::damage::Damage;
-use crate::common::predict::MAX_SIV_CLEARTEXT;
 use crate::common::random::Random;
 use crate::common::siv_message::Message;
 use crate::{FILLINGS, NO, YES};

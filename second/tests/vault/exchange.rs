@@ -1,0 +1,100 @@
+//! What one program writes, the other opens.
+
+use crate::case::{Call, Case, End};
+use crate::compare::Compare;
+use crate::{library, make, predict, Part};
+
+pub const PARTS: &[Part] = &[
+    ("exchange: files", files),
+    ("exchange: headers and chunks", headers_and_chunks),
+    ("exchange: names", names),
+];
+
+/// One of the two programs.
+type Program = fn(&Case) -> End;
+
+/// Each program as the writer, with the other as the reader.
+const WAYS: [(Program, Program); 2] = [(library::end, predict::end), (predict::end, library::end)];
+
+/// What a call writes to each of its buffers.
+fn written(compare: &mut Compare, writer: Program, case: &Case) -> Vec<Vec<u8>> {
+    let mut end = writer(case);
+    assert_eq!(end.row, 0);
+    compare.tally.count(case.call, &end);
+    end.buffers[0].truncate(end.length as usize);
+    if let Some(full) = end.buffers.get_mut(1) {
+        full.truncate(end.other as usize);
+    }
+    end.buffers
+}
+
+/// Fails unless opening gives the cleartext.
+fn opens(
+    compare: &mut Compare,
+    reader: Program,
+    call: Call,
+    inputs: Vec<Vec<u8>>,
+    cleartext: &[u8],
+) {
+    let case = Case {
+        call,
+        inputs,
+        numbers: if call == Call::OpenChunk {
+            vec![7]
+        } else {
+            vec![]
+        },
+        buffers: vec![compare.random.bytes(cleartext.len())],
+    };
+    let end = reader(&case);
+    assert_eq!((end.row, end.length), (0, cleartext.len() as u64));
+    assert!(end.buffers[0] == cleartext, "another cleartext");
+    compare.tally.count(call, &end);
+}
+
+fn files(compare: &mut Compare) {
+    for len in [0, 1, 100, 32_767, 32_768, 32_769, 65_536, 100_000] {
+        for (writer, reader) in WAYS {
+            let write = make::write_file(&mut compare.random, len);
+            let file = written(compare, writer, &write).swap_remove(0);
+            let inputs = [&write.inputs[..2], &[file]].concat();
+            opens(compare, reader, Call::OpenFile, inputs, &write.inputs[5]);
+        }
+    }
+}
+
+fn headers_and_chunks(compare: &mut Compare) {
+    for len in [1, 2, 100, 32_767, 32_768] {
+        for (writer, reader) in WAYS {
+            let write = make::write_header(&mut compare.random);
+            let header = written(compare, writer, &write).swap_remove(0);
+            let inputs = [&write.inputs[..2], &[header]].concat();
+            opens(compare, reader, Call::OpenHeader, inputs, &write.inputs[3]);
+
+            let mut write = make::write_chunk(&mut compare.random, len);
+            write.numbers = vec![7];
+            let chunk = written(compare, writer, &write).swap_remove(0);
+            let inputs = [&write.inputs[..2], &[chunk]].concat();
+            opens(compare, reader, Call::OpenChunk, inputs, &write.inputs[3]);
+        }
+    }
+}
+
+fn names(compare: &mut Compare) {
+    for len in 1..=255 {
+        for (writer, reader) in WAYS {
+            let write = make::write_name(&mut compare.random, len);
+            let mut texts = written(compare, writer, &write);
+            let call = if len > 146 {
+                Call::OpenLongName
+            } else {
+                Call::OpenName
+            };
+            if call == Call::OpenName {
+                texts.truncate(1);
+            }
+            let inputs = [&write.inputs[..3], &texts].concat();
+            opens(compare, reader, call, inputs, &write.inputs[3]);
+        }
+    }
+}

@@ -1,0 +1,51 @@
+//! Single headers.
+
+use crate::compare::Compare;
+use crate::fault::resize;
+use crate::{make, Part};
+
+pub const PARTS: &[Part] = &[("headers: every bit", bits), ("headers: every size", sizes)];
+
+fn bits(compare: &mut Compare) {
+    let case = make::open_header(&mut compare.random);
+    assert_eq!(compare.row(&case), 0);
+    // All but the MAC key, which a header does not use.
+    for input in [0, 2] {
+        for bit in 0..8 * case.inputs[input].len() {
+            let mut damaged = case.clone();
+            damaged.inputs[input][bit / 8] ^= 1 << (bit % 8);
+            assert_eq!(compare.row(&damaged), 9);
+        }
+    }
+    for bit in 0..256 {
+        let mut other = case.clone();
+        other.inputs[1][bit / 8] ^= 1 << (bit % 8);
+        assert_eq!(compare.row(&other), 0);
+    }
+}
+
+fn sizes(compare: &mut Compare) {
+    let write = make::write_header(&mut compare.random);
+    let open = make::open_header(&mut compare.random);
+    for case in [write, open] {
+        for input in 0..case.inputs.len() {
+            for len in 0..100 {
+                let mut sized = case.clone();
+                resize(&mut sized.inputs[input], len, &mut compare.random);
+                let right = len == case.inputs[input].len();
+                let row = if input == 2 && case.inputs.len() == 3 {
+                    4
+                } else {
+                    1
+                };
+                assert_eq!(compare.row(&sized), if right { 0 } else { row });
+            }
+        }
+        let need = if case.inputs.len() == 3 { 32 } else { 68 };
+        for len in 0..100 {
+            let mut sized = case.clone();
+            resize(&mut sized.buffers[0], len, &mut compare.random);
+            assert_eq!(compare.row(&sized), if len < need { 7 } else { 0 });
+        }
+    }
+}

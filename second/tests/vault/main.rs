@@ -1,0 +1,131 @@
+//! Compares the static library with `second` through the C boundary: the row
+//! or success of each call, its numbers, and every byte of its buffers.
+//!
+//! The parts run side by side. At the end each call must have been done and
+//! must have given each of its rows. The environment can set
+//! - `SEED`, the number from which all random choices follow;
+//! - `CALLS`, how many random calls are made beside the parts.
+//!
+//! An argument that is not an option picks the parts whose names have it.
+
+#[path = "../common"]
+mod common {
+    pub mod random;
+}
+
+mod case;
+mod chunks;
+mod compare;
+mod exchange;
+mod fault;
+mod files;
+mod headers;
+mod lengths;
+mod library;
+mod longest;
+mod make;
+mod names;
+mod order;
+mod points;
+mod predict;
+mod random_calls;
+mod ranges;
+mod stock_program;
+mod tally;
+mod texts;
+
+use compare::Compare;
+use std::num::NonZero;
+use std::process::ExitCode;
+use std::sync::atomic::{AtomicUsize, Ordering};
+use std::sync::Mutex;
+use std::time::Instant;
+use std::{env, panic, thread};
+use tally::Tally;
+
+type Part = (&'static str, fn(&mut Compare));
+
+const PARTS: [&[Part]; 12] = [
+    longest::PARTS,
+    files::PARTS,
+    ranges::PARTS,
+    chunks::PARTS,
+    texts::PARTS,
+    names::PARTS,
+    order::PARTS,
+    exchange::PARTS,
+    headers::PARTS,
+    lengths::PARTS,
+    points::PARTS,
+    stock_program::PARTS,
+];
+
+/// The least number of calls that a whole run compares.
+const LEAST: u64 = 100_000;
+
+fn main() -> ExitCode {
+    let seed = number("SEED", 1);
+    let calls = number("CALLS", 100_000);
+    let filters: Vec<_> = env::args()
+        .skip(1)
+        .filter(|arg| !arg.starts_with('-'))
+        .collect();
+    let wanted = |name: &str| filters.is_empty() || filters.iter().any(|part| name.contains(part));
+    let mut parts = PARTS.concat();
+    parts.retain(|(name, _)| wanted(name));
+    println!("seed {seed} (SEED), {calls} random calls (CALLS)");
+
+    let mut tally = Tally::default();
+    let mut failed = run(&parts, seed, &mut tally);
+    if wanted("random calls") {
+        failed |= !random_calls::run(seed, calls, &mut tally);
+    }
+    println!("{tally}\n{} calls compared", tally.total());
+    if failed {
+        return ExitCode::FAILURE;
+    }
+    if filters.is_empty() {
+        tally.assert_every_end();
+        assert!(tally.total() >= LEAST, "too few calls");
+    }
+    ExitCode::SUCCESS
+}
+
+/// A number from the environment.
+fn number(name: &str, default: u64) -> u64 {
+    match env::var(name) {
+        Ok(text) => text
+            .parse()
+            .unwrap_or_else(|_| panic!("{name} is no number")),
+        Err(_) => default,
+    }
+}
+
+fn threads() -> usize {
+    thread::available_parallelism().map_or(1, NonZero::get)
+}
+
+/// Runs the parts, and gives whether one failed.
+fn run(parts: &[Part], seed: u64, tally: &mut Tally) -> bool {
+    let next = AtomicUsize::new(0);
+    let failed = AtomicUsize::new(0);
+    let tally = Mutex::new(tally);
+    let work = || {
+        while let Some((name, part)) = parts.get(next.fetch_add(1, Ordering::Relaxed)) {
+            let start = Instant::now();
+            let mut compare = Compare::new(seed);
+            let outcome = panic::catch_unwind(panic::AssertUnwindSafe(|| part(&mut compare)));
+            let verdict = if outcome.is_ok() { "ok" } else { "FAILED" };
+            failed.fetch_add(usize::from(outcome.is_err()), Ordering::Relaxed);
+            let (calls, time) = (compare.tally.total(), start.elapsed().as_secs_f64());
+            println!("{name:40} {calls:>7} calls {time:>6.1} s {verdict}");
+            tally.lock().expect("no panic with it").add(&compare.tally);
+        }
+    };
+    thread::scope(|scope| {
+        for _ in 0..threads() {
+            scope.spawn(work);
+        }
+    });
+    failed.into_inner() > 0
+}

@@ -1,0 +1,153 @@
+//! Names and paths.
+
+use crate::case::{Case, End};
+use crate::compare::Compare;
+use crate::fault::resize;
+use crate::{make, Part};
+
+pub const PARTS: &[Part] = &[
+    ("names: every length", lengths),
+    ("names: every directory ID length and byte", directory_ids),
+    ("names: sizes of buffers", buffers),
+    ("names: sizes of keys", keys),
+    ("names: in another directory", moved),
+    ("names: swapped keys", swapped_keys),
+];
+
+fn lengths(compare: &mut Compare) {
+    for len in 0..300 {
+        let mut write = make::write_name(&mut compare.random, len);
+        write.buffers = [230, 400].map(|len| compare.random.bytes(len)).to_vec();
+        let End {
+            row, length, other, ..
+        } = compare.end(&write);
+        let full = ((16 + len).div_ceil(3) * 4 + 4) as u64;
+        match len {
+            1..=146 => assert_eq!((row, length, other), (0, full, 0)),
+            147..=255 => assert_eq!((row, length, other), (0, 32, full)),
+            _ => assert_eq!(row, 3),
+        }
+        if (1..=255).contains(&len) {
+            let long = make::open_long_name(&mut compare.random, len);
+            assert_eq!(compare.row(&long), if len > 146 { 0 } else { 11 });
+        }
+        if (1..=146).contains(&len) {
+            let open = make::open_name(&mut compare.random, len);
+            assert_eq!(compare.row(&open), 0);
+        }
+    }
+}
+
+/// One of each call that takes a directory ID.
+fn each_call(compare: &mut Compare) -> [Case; 4] {
+    let random = &mut compare.random;
+    [
+        make::write_name(random, 30),
+        make::open_name(random, 30),
+        make::open_long_name(random, 150),
+        make::dir_path(random),
+    ]
+}
+
+fn directory_ids(compare: &mut Compare) {
+    for case in each_call(compare) {
+        let opens = compare.row(&case) == 0;
+        assert!(opens);
+        for len in 0..60 {
+            let mut other = case.clone();
+            other.inputs[2] = vec![b'd'; len];
+            let row = compare.row(&other);
+            assert_eq!(row == 2, len > 36);
+        }
+        for byte in 0..=255 {
+            for place in [0, 17, 35] {
+                let mut other = case.clone();
+                other.inputs[2] = vec![b'd'; 36];
+                other.inputs[2][place] = byte;
+                let row = compare.row(&other);
+                assert_eq!(row == 2, byte >= 128);
+            }
+        }
+    }
+}
+
+fn buffers(compare: &mut Compare) {
+    for name in [1, 50, 146, 147, 255] {
+        let write = make::write_name(&mut compare.random, name);
+        let full = (16 + name).div_ceil(3) * 4 + 4;
+        for stored_len in (0..50).chain(full - 3..full + 3) {
+            for full_len in [0, 1, full - 1, full, full + 1] {
+                let mut sized = write.clone();
+                let buffers = [stored_len, full_len].map(|len| compare.random.bytes(len));
+                sized.buffers = buffers.to_vec();
+                let fits = match full {
+                    0..=220 => stored_len >= full,
+                    _ => stored_len >= 32 && full_len >= full,
+                };
+                assert_eq!(compare.row(&sized), if fits { 0 } else { 7 });
+            }
+        }
+    }
+    let opens = [
+        (make::open_name(&mut compare.random, 40), 40),
+        (make::open_long_name(&mut compare.random, 200), 200),
+        (make::dir_path(&mut compare.random), 36),
+    ];
+    for (case, need) in opens {
+        for len in 0..230 {
+            let mut sized = case.clone();
+            resize(&mut sized.buffers[0], len, &mut compare.random);
+            assert_eq!(compare.row(&sized), if len < need { 7 } else { 0 });
+        }
+    }
+}
+
+fn keys(compare: &mut Compare) {
+    for case in each_call(compare) {
+        for key in 0..2 {
+            for len in 0..70 {
+                let mut sized = case.clone();
+                resize(&mut sized.inputs[key], len, &mut compare.random);
+                assert_eq!(compare.row(&sized), if len == 32 { 0 } else { 1 });
+            }
+        }
+    }
+}
+
+/// A name opens in its own directory only. The root's ID is empty, and its
+/// names are not those of another.
+fn moved(compare: &mut Compare) {
+    let ids: [&[u8]; 6] = [b"", b"\0", b"a", b"aa", &[b'a'; 35], &[b'a'; 36]];
+    for name in [1, 15, 16, 17, 146, 147, 255] {
+        for here in ids {
+            let mut write = make::write_name(&mut compare.random, name);
+            write.inputs[2] = here.to_vec();
+            let end = compare.end(&write);
+            assert_eq!(end.row, 0);
+            for there in ids {
+                let mut open = match name {
+                    0..=146 => make::open_name(&mut compare.random, name),
+                    _ => make::open_long_name(&mut compare.random, name),
+                };
+                open.inputs[..2].clone_from_slice(&write.inputs[..2]);
+                open.inputs[2] = there.to_vec();
+                open.inputs[3] = end.buffers[0][..end.length as usize].to_vec();
+                if name > 146 {
+                    open.inputs[4] = end.buffers[1][..end.other as usize].to_vec();
+                }
+                assert_eq!(compare.row(&open), if here == there { 0 } else { 12 });
+            }
+        }
+    }
+}
+
+fn swapped_keys(compare: &mut Compare) {
+    for _ in 0..20 {
+        for case in each_call(compare) {
+            let mut swapped = case.clone();
+            swapped.inputs.swap(0, 1);
+            let (right, wrong) = (compare.end(&case), compare.end(&swapped));
+            assert!(wrong.row == 12 || wrong.buffers != right.buffers);
+        }
+    }
+}

@@ -1,0 +1,132 @@
+//! Random calls: each with no fault or with some of its rows' faults, and some
+//! with changes that were made without any thought.
+
+use crate::case::{Call, Case};
+use crate::common::random::Random;
+use crate::compare::Compare;
+use crate::fault::{flip, resize, spoil};
+use crate::tally::Tally;
+use crate::{make, threads};
+use std::sync::atomic::{AtomicBool, Ordering};
+use std::time::{Duration, Instant};
+use std::{panic, thread};
+
+/// How often a long run says how far it is.
+const NEWS: Duration = Duration::from_secs(60);
+
+/// So many calls have, by themselves, every end of every call among them.
+const ENOUGH: u64 = 50_000;
+
+/// Gives whether all calls agreed. Which call is made under which number
+/// follows from the seed and the number alone.
+pub fn run(seed: u64, calls: u64, tally: &mut Tally) -> bool {
+    let start = Instant::now();
+    let failed = AtomicBool::new(false);
+    let threads = threads() as u64;
+    let failed_flag = &failed;
+    let work = move |first| {
+        let mut compare = Compare::new(0);
+        let mut news = Instant::now();
+        for number in (first..calls).step_by(threads as usize) {
+            compare.random = Random::new(seed_of(seed, number));
+            let call = || one(&mut compare);
+            if panic::catch_unwind(panic::AssertUnwindSafe(call)).is_err() {
+                println!("random call {number} of seed {seed} FAILED");
+                failed_flag.store(true, Ordering::Relaxed);
+            }
+            if failed_flag.load(Ordering::Relaxed) {
+                break;
+            }
+            if first == 0 && news.elapsed() > NEWS {
+                println!("random call {number} of seed {seed}");
+                news = Instant::now();
+            }
+        }
+        compare.tally
+    };
+    let mut made = Tally::default();
+    thread::scope(|scope| {
+        let workers: Vec<_> = (0..threads)
+            .map(|first| scope.spawn(move || work(first)))
+            .collect();
+        for worker in workers {
+            made.add(&worker.join().expect("panics are caught"));
+        }
+    });
+    let ok = !failed.into_inner();
+    if ok && calls >= ENOUGH {
+        made.assert_every_end();
+    }
+    tally.add(&made);
+    let (verdict, time) = (
+        if ok { "ok" } else { "FAILED" },
+        start.elapsed().as_secs_f64(),
+    );
+    println!(
+        "{:40} {calls:>7} calls {time:>6.1} s {verdict}",
+        "random calls"
+    );
+    ok
+}
+
+fn seed_of(seed: u64, number: u64) -> u64 {
+    Random::new(seed).word() ^ Random::new(!number).word()
+}
+
+fn one(compare: &mut Compare) {
+    let call = Call::ALL[compare.random.below(Call::ALL.len())];
+    let case = random_case(call, &mut compare.random);
+    compare.end(&case);
+}
+
+fn random_case(call: Call, random: &mut Random) -> Case {
+    let mut case = make::case(call, random);
+    let faults = [0, 1, 1, 2][random.below(4)];
+    let mut rows: Vec<_> = (0..faults)
+        .map(|_| call.rows()[random.below(call.rows().len())])
+        .collect();
+    rows.sort();
+    rows.dedup();
+    for row in rows.into_iter().rev() {
+        // A cleartext over the limit takes longer than many other calls.
+        if (call, row) != (Call::WriteFile, 4) || random.below(20) == 0 {
+            spoil(&mut case, row, random);
+        }
+    }
+    if random.below(4) == 0 {
+        for _ in 0..1 + random.below(3) {
+            change(&mut case, random);
+        }
+    }
+    case
+}
+
+fn change(case: &mut Case, random: &mut Random) {
+    let Case {
+        inputs,
+        numbers,
+        buffers,
+        ..
+    } = case;
+    let place = random.below(inputs.len() + numbers.len() + buffers.len());
+    if let Some(input) = inputs.get_mut(place) {
+        let len = input.len();
+        match random.below(4) {
+            0 => resize(input, len + 1 + random.below(40), random),
+            1 => input.truncate(len - random.below(len.min(40) + 1)),
+            _ if len > 0 => flip(input, random),
+            _ => {}
+        }
+    } else if let Some(number) = numbers.get_mut(place - inputs.len()) {
+        *number = match random.below(4) {
+            0 => random.word() >> random.below(64),
+            1 => number.wrapping_add(1),
+            2 => number.wrapping_sub(1),
+            _ => *number ^ 1 << random.below(64),
+        };
+    } else {
+        let buffer = &mut buffers[place - inputs.len() - numbers.len()];
+        let len = random.below(buffer.len() + 40);
+        resize(buffer, len, random);
+    }
+}

@@ -1,0 +1,147 @@
+//! Stored and full names mangled at every place.
+
+use crate::case::{Call, Case};
+use crate::compare::Compare;
+use crate::fault::full_name;
+use crate::{make, Part};
+
+pub const PARTS: &[Part] = &[
+    ("texts: every character at every place", every_character),
+    ("texts: some characters of long names", some_characters),
+    ("texts: cut, shorter and longer", lengths),
+    ("texts: every decoded length", decoded_lengths),
+    ("texts: padding and spare bits", last_group),
+    ("texts: every character of the hash name", hash_names),
+];
+
+/// The case with this as its (full) name, and with the hash of it.
+fn with_text(case: &Case, text: Vec<u8>) -> Case {
+    let mut case = case.clone();
+    if case.call == Call::OpenLongName {
+        case.inputs[3] = make::hash_name(&text);
+    }
+    *case.inputs.last_mut().expect("a text") = text;
+    case
+}
+
+fn text(case: &Case) -> Vec<u8> {
+    case.inputs.last().expect("a text").clone()
+}
+
+/// Three names, so that the last group has each number of characters.
+fn every_character(compare: &mut Compare) {
+    for len in [1, 2, 3] {
+        let case = make::open_name(&mut compare.random, len);
+        let right = text(&case);
+        for place in 0..right.len() {
+            for character in 0..=255 {
+                let mut text = right.clone();
+                text[place] = character;
+                let same = text == right;
+                let row = compare.row(&with_text(&case, text));
+                assert!(matches!((same, row), (true, 0) | (false, 5 | 12)));
+            }
+        }
+    }
+}
+
+fn some_characters(compare: &mut Compare) {
+    let plain = make::open_name(&mut compare.random, 146);
+    let long = [147, 148, 149, 255].map(|len| make::open_long_name(&mut compare.random, len));
+    for case in [plain].into_iter().chain(long) {
+        let right = text(&case);
+        for place in 0..right.len() {
+            for character in *b"AB_-=.+\xe1" {
+                let mut text = right.clone();
+                text[place] = character;
+                let same = text == right;
+                let row = compare.row(&with_text(&case, text));
+                assert!(matches!((same, row), (true, 0) | (false, 5 | 12)));
+            }
+        }
+    }
+}
+
+fn lengths(compare: &mut Compare) {
+    let plain = [1, 2, 3, 144].map(|len| make::open_name(&mut compare.random, len));
+    let long = [147, 148, 255].map(|len| make::open_long_name(&mut compare.random, len));
+    for case in plain.into_iter().chain(long) {
+        let right = text(&case);
+        for place in 0..=right.len() {
+            let (start, end) = right.split_at(place);
+            let rest = end.get(1..).unwrap_or(&[]);
+            for inserted in [&b"A"[..], b"=", b"AAAA", b".c9r", b"\n", b"\0"] {
+                let row = compare.row(&with_text(&case, [start, inserted, end].concat()));
+                assert!(row == 5 || inserted == b"AAAA" && matches!(row, 7 | 12));
+            }
+            let same = right.len() == place;
+            let row = compare.row(&with_text(&case, start.to_vec()));
+            assert_eq!(row, if same { 0 } else { 5 });
+            let row = compare.row(&with_text(&case, [start, rest].concat()));
+            assert_eq!(row, if same { 0 } else { 5 });
+            compare.end(&with_text(&case, [start, b".c9r"].concat()));
+        }
+    }
+}
+
+/// Only 17 to 271 bytes are a sealed name.
+fn decoded_lengths(compare: &mut Compare) {
+    let mut plain = make::open_name(&mut compare.random, 1);
+    let mut long = make::open_long_name(&mut compare.random, 255);
+    plain.buffers[0] = compare.random.bytes(400);
+    long.buffers[0] = compare.random.bytes(400);
+    for len in 0..400 {
+        let text = full_name(&compare.random.bytes(len));
+        let row = compare.row(&with_text(&plain, text.clone()));
+        assert_eq!(row, if (17..=162).contains(&len) { 12 } else { 5 });
+        let row = compare.row(&with_text(&long, text));
+        match len {
+            17..=162 => assert_eq!(row, 11),
+            163..=271 => assert_eq!(row, 12),
+            _ => assert_eq!(row, 5),
+        }
+    }
+}
+
+/// All pairs of characters at the end of the text.
+fn last_group(compare: &mut Compare) {
+    let alphabet = b"ABCDEFGHIJKLMNOPQRSTUVWXYZabcdefghijklmnopqrstuvwxyz0123456789-_=+/.";
+    for len in [1, 2, 3] {
+        let case = make::open_name(&mut compare.random, len);
+        let right = text(&case);
+        let end = right.len() - 4;
+        for place in [end - 3, end - 2] {
+            for &one in alphabet {
+                for &other in alphabet {
+                    let mut text = right.clone();
+                    text[place] = one;
+                    text[place + 1] = other;
+                    let same = text == right;
+                    let row = compare.row(&with_text(&case, text));
+                    assert!(matches!((same, row), (true, 0) | (false, 5 | 7 | 12)));
+                }
+            }
+        }
+    }
+}
+
+fn hash_names(compare: &mut Compare) {
+    let case = make::open_long_name(&mut compare.random, 200);
+    for place in 0..32 {
+        for character in 0..=255 {
+            let mut other = case.clone();
+            other.inputs[3][place] = character;
+            let same = other.inputs[3] == case.inputs[3];
+            assert_eq!(compare.row(&other), if same { 0 } else { 11 });
+        }
+    }
+    for len in 0..70 {
+        let mut other = case.clone();
+        other.inputs[3].resize(len, b'A');
+        assert_eq!(compare.row(&other), if len == 32 { 0 } else { 11 });
+    }
+    // The full name itself is not its stored name.
+    let mut other = case.clone();
+    other.inputs[3] = case.inputs[4].clone();
+    assert_eq!(compare.row(&other), 11);
+}
