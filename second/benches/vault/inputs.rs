@@ -1,0 +1,53 @@
+//! Inputs that are timed.
+
+use crate::random::Random;
+use second::vault::{self, CHUNK_LEN, MAX_CLEARTEXT_LEN};
+
+pub const ENC: [u8; 32] = [0x55; 32];
+pub const MAC: [u8; 32] = [0x77; 32];
+pub const CONTENT_KEY: [u8; 32] = [0x33; 32];
+pub const NONCE: [u8; 12] = [0x11; 12];
+pub const DIR_ID: &[u8] = b"e9250eb8-078d-4fc0-8835-be92a313360c";
+
+/// A cleartext of the longest length, with a nonce for each chunk.
+pub struct Cleartext {
+    pub bytes: Vec<u8>,
+    pub nonces: Vec<u8>,
+}
+
+impl Cleartext {
+    pub fn new() -> Self {
+        let mut random = Random::new(1);
+        let bytes = random.bytes(MAX_CLEARTEXT_LEN as usize);
+        let chunks = bytes.len().div_ceil(CHUNK_LEN);
+        let nonces = (0..chunks).flat_map(|_| random.array::<12>()).collect();
+        Cleartext { bytes, nonces }
+    }
+
+    pub fn file(&self) -> Vec<u8> {
+        let length = vault::file_length(self.bytes.len() as u64).expect("within the limit");
+        let mut file = vec![0; length as usize];
+        let Cleartext { bytes, nonces } = self;
+        vault::write_file(&ENC, &MAC, &NONCE, &CONTENT_KEY, nonces, bytes, &mut file)
+            .expect("nothing to refuse");
+        file
+    }
+}
+
+/// Places of ranges of this length, anywhere in the longest cleartext.
+pub fn places(number: usize, len: usize) -> Vec<u64> {
+    let mut random = Random::new(2);
+    let end = MAX_CLEARTEXT_LEN as usize - len;
+    (0..number).map(|_| random.below(end + 1) as u64).collect()
+}
+
+/// Names of up to this many bytes, and of one at least.
+pub fn names(number: usize, longest: usize) -> Vec<Vec<u8>> {
+    let mut random = Random::new(3);
+    (0..number)
+        .map(|_| {
+            let len = 1 + random.below(longest);
+            random.bytes(len)
+        })
+        .collect()
+}

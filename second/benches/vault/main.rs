@@ -1,0 +1,33 @@
+//! Times the static library and `second` on the same inputs, and measures how
+//! much stack the library takes.
+
+mod inputs;
+mod parts;
+#[expect(dead_code, reason = "only GCM is timed by itself")]
+#[path = "../../tests/common/primitives.rs"]
+mod primitives;
+#[path = "../../tests/common/random.rs"]
+mod random;
+#[path = "../../tests/stack/measure.rs"]
+mod stack;
+mod time;
+mod vault;
+
+fn main() {
+    println!(
+        "The library and the second program, both as optimised builds, on the same inputs.\n\
+         Answers are compared, byte for byte. Before each timed call or row of calls all bytes\n\
+         of the buffers for its answers are set to 0, so that their memory is there; inputs are\n\
+         left as they are. Each time is the least of {} rounds, in which the two take turns.\n",
+        time::ROUNDS
+    );
+    println!(
+        "{:40} {:>12} {:>12} {:>7}",
+        "", "library", "second", "ratio"
+    );
+    vault::run();
+    println!();
+    parts::run();
+    println!();
+    stack::run();
+}
