@@ -4,7 +4,8 @@
 //! The parts run side by side. At the end each call must have been done and
 //! must have given each of its rows. The environment can set
 //! - `SEED`, the number from which all random choices follow;
-//! - `CALLS`, how many random calls are made beside the parts.
+//! - `CALLS`, how many random calls are made beside the parts;
+//! - `FIRST`, the number of the first of them, to make one again that failed.
 //!
 //! An argument that is not an option picks the parts whose names have it.
 
@@ -65,6 +66,7 @@ const LEAST: u64 = 100_000;
 
 fn main() -> ExitCode {
     let seed = number("SEED", 1);
+    let first = number("FIRST", 0);
     let calls = number("CALLS", 100_000);
     let filters: Vec<_> = env::args()
         .skip(1)
@@ -73,12 +75,12 @@ fn main() -> ExitCode {
     let wanted = |name: &str| filters.is_empty() || filters.iter().any(|part| name.contains(part));
     let mut parts = PARTS.concat();
     parts.retain(|(name, _)| wanted(name));
-    println!("seed {seed} (SEED), {calls} random calls (CALLS)");
+    println!("SEED={seed} FIRST={first} CALLS={calls}");
 
     let mut tally = Tally::default();
     let mut failed = run(&parts, seed, &mut tally);
     if wanted("random calls") {
-        failed |= !random_calls::run(seed, calls, &mut tally);
+        failed |= !random_calls::run(seed, first..first.saturating_add(calls), &mut tally);
     }
     println!("{tally}\n{} calls compared", tally.total());
     if failed {
@@ -105,6 +107,13 @@ fn threads() -> usize {
     thread::available_parallelism().map_or(1, NonZero::get)
 }
 
+/// Prints how a part ended.
+fn report(name: &str, calls: u64, start: Instant, ok: bool) {
+    let time = start.elapsed().as_secs_f64();
+    let verdict = if ok { "ok" } else { "FAILED" };
+    println!("{name:45} {calls:>7} calls {time:>6.1} s {verdict}");
+}
+
 /// Runs the parts, and gives whether one failed.
 fn run(parts: &[Part], seed: u64, tally: &mut Tally) -> bool {
     let next = AtomicUsize::new(0);
@@ -115,10 +124,8 @@ fn run(parts: &[Part], seed: u64, tally: &mut Tally) -> bool {
             let start = Instant::now();
             let mut compare = Compare::new(seed);
             let outcome = panic::catch_unwind(panic::AssertUnwindSafe(|| part(&mut compare)));
-            let verdict = if outcome.is_ok() { "ok" } else { "FAILED" };
             failed.fetch_add(usize::from(outcome.is_err()), Ordering::Relaxed);
-            let (calls, time) = (compare.tally.total(), start.elapsed().as_secs_f64());
-            println!("{name:40} {calls:>7} calls {time:>6.1} s {verdict}");
+            report(name, compare.tally.total(), start, outcome.is_ok());
             tally.lock().expect("no panic with it").add(&compare.tally);
         }
     };

@@ -6,7 +6,8 @@ use crate::common::random::Random;
 use crate::compare::Compare;
 use crate::fault::{flip, resize, spoil};
 use crate::tally::Tally;
-use crate::{make, threads};
+use crate::{make, report, threads};
+use std::ops::Range;
 use std::sync::atomic::{AtomicBool, Ordering};
 use std::time::{Duration, Instant};
 use std::{panic, thread};
@@ -17,56 +18,50 @@ const NEWS: Duration = Duration::from_secs(60);
 /// So many calls have, by themselves, every end of every call among them.
 const ENOUGH: u64 = 50_000;
 
-/// Gives whether all calls agreed. Which call is made under which number
-/// follows from the seed and the number alone.
-pub fn run(seed: u64, calls: u64, tally: &mut Tally) -> bool {
+/// Makes the calls with these numbers, and gives whether all agreed. Which
+/// call is made follows from the seed and the number alone.
+pub fn run(seed: u64, numbers: Range<u64>, tally: &mut Tally) -> bool {
     let start = Instant::now();
-    let failed = AtomicBool::new(false);
-    let threads = threads() as u64;
-    let failed_flag = &failed;
-    let work = move |first| {
-        let mut compare = Compare::new(0);
-        let mut news = Instant::now();
-        for number in (first..calls).step_by(threads as usize) {
-            compare.random = Random::new(seed_of(seed, number));
-            let call = || one(&mut compare);
-            if panic::catch_unwind(panic::AssertUnwindSafe(call)).is_err() {
-                println!("random call {number} of seed {seed} FAILED");
-                failed_flag.store(true, Ordering::Relaxed);
-            }
-            if failed_flag.load(Ordering::Relaxed) {
-                break;
-            }
-            if first == 0 && news.elapsed() > NEWS {
-                println!("random call {number} of seed {seed}");
-                news = Instant::now();
-            }
-        }
-        compare.tally
-    };
+    let failed = &AtomicBool::new(false);
     let mut made = Tally::default();
     thread::scope(|scope| {
-        let workers: Vec<_> = (0..threads)
-            .map(|first| scope.spawn(move || work(first)))
+        let workers: Vec<_> = (0..threads())
+            .map(|first| numbers.clone().skip(first).step_by(threads()))
+            .map(|numbers| scope.spawn(move || work(seed, numbers, failed)))
             .collect();
         for worker in workers {
             made.add(&worker.join().expect("panics are caught"));
         }
     });
-    let ok = !failed.into_inner();
-    if ok && calls >= ENOUGH {
+    let ok = !failed.load(Ordering::Relaxed);
+    report("random calls", made.total(), start, ok);
+    if ok && made.total() >= ENOUGH {
         made.assert_every_end();
     }
     tally.add(&made);
-    let (verdict, time) = (
-        if ok { "ok" } else { "FAILED" },
-        start.elapsed().as_secs_f64(),
-    );
-    println!(
-        "{:40} {calls:>7} calls {time:>6.1} s {verdict}",
-        "random calls"
-    );
     ok
+}
+
+/// Makes calls until one fails, here or elsewhere.
+fn work(seed: u64, numbers: impl Iterator<Item = u64>, failed: &AtomicBool) -> Tally {
+    let mut compare = Compare::new(0);
+    let mut news = Instant::now();
+    for number in numbers {
+        if failed.load(Ordering::Relaxed) {
+            break;
+        }
+        compare.random = Random::new(seed_of(seed, number));
+        let call = || one(&mut compare);
+        if panic::catch_unwind(panic::AssertUnwindSafe(call)).is_err() {
+            println!("FAILED: SEED={seed} FIRST={number} CALLS=1");
+            failed.store(true, Ordering::Relaxed);
+        }
+        if news.elapsed() > NEWS {
+            println!("SEED={seed}, at random call {number}");
+            news = Instant::now();
+        }
+    }
+    compare.tally
 }
 
 fn seed_of(seed: u64, number: u64) -> u64 {
