@@ -27,21 +27,16 @@ fn bits(compare: &mut Compare) {
 fn sizes(compare: &mut Compare) {
     let write = make::write_header(&mut compare.random);
     let open = make::open_header(&mut compare.random);
-    for case in [write, open] {
+    for (case, keys_and_nonces, need) in [(write, 4, 68), (open, 2, 32)] {
         for input in 0..case.inputs.len() {
+            let wrong = if input < keys_and_nonces { 1 } else { 4 };
             for len in 0..100 {
                 let mut sized = case.clone();
                 resize(&mut sized.inputs[input], len, &mut compare.random);
                 let right = len == case.inputs[input].len();
-                let row = if input == 2 && case.inputs.len() == 3 {
-                    4
-                } else {
-                    1
-                };
-                assert_eq!(compare.row(&sized), if right { 0 } else { row });
+                assert_eq!(compare.row(&sized), if right { 0 } else { wrong });
             }
         }
-        let need = if case.inputs.len() == 3 { 32 } else { 68 };
         for len in 0..100 {
             let mut sized = case.clone();
             resize(&mut sized.buffers[0], len, &mut compare.random);

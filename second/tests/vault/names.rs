@@ -51,8 +51,7 @@ fn each_call(compare: &mut Compare) -> [Case; 4] {
 
 fn directory_ids(compare: &mut Compare) {
     for case in each_call(compare) {
-        let opens = compare.row(&case) == 0;
-        assert!(opens);
+        assert_eq!(compare.row(&case), 0);
         for len in 0..60 {
             let mut other = case.clone();
             other.inputs[2] = vec![b'd'; len];

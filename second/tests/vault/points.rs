@@ -1,9 +1,8 @@
 //! The test points that are run, by name, with the values as they are given.
 
-use crate::case::{Call, Case, End};
+use crate::case::{Call, End};
 use crate::compare::Compare;
-use crate::make;
-use crate::make::number;
+use crate::make::{self, number};
 use crate::Part;
 
 pub const PARTS: &[Part] = &[
@@ -66,7 +65,7 @@ fn largest_from(compare: &mut Compare) {
 /// Success, length 0, and the header is checked.
 fn empty_range_at_end(compare: &mut Compare) {
     for len in [0, 1, 32_768, 40_000] {
-        let mut case: Case = make::read_range(&mut compare.random, len, len as u64, 0);
+        let mut case = make::read_range(&mut compare.random, len, len as u64, 0);
         let End { row, length, .. } = compare.end(&case);
         assert_eq!((row, length), (0, 0));
         case.inputs[2][67] ^= 1;

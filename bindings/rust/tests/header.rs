@@ -1,0 +1,62 @@
+//! The functions are declared here as they are in `include/skrapnefja.h`.
+
+use std::collections::BTreeMap;
+
+const HEADER: &str = include_str!("../../../include/skrapnefja.h");
+const FFI: &str = include_str!("../src/ffi.rs");
+
+/// Each function with its parameters, as Rust declares them.
+type Functions = BTreeMap<String, Vec<String>>;
+
+#[test]
+fn same_functions() {
+    let (c, rust) = (c_functions(), rust_functions());
+    assert_eq!(c.len(), 13);
+    assert_eq!(rust, c);
+}
+
+fn c_functions() -> Functions {
+    let code = without_comments(HEADER);
+    let declarations = code.split("uint32_t skrapnefja_").skip(1);
+    let parsed = declarations.map(|text| {
+        let (name, rest) = text.split_once('(').expect("parameters");
+        let (parameters, _) = rest.split_once(");").expect("an end");
+        let parameters = parameters.split(',').map(c_parameter).collect();
+        (name.to_string(), parameters)
+    });
+    parsed.collect()
+}
+
+fn without_comments(text: &str) -> String {
+    let mut parts = text.split("/*");
+    let first = parts.next().expect("a first part").to_string();
+    let after = parts.map(|part| part.split_once("*/").expect("an end").1);
+    first + &after.collect::<String>()
+}
+
+fn c_parameter(text: &str) -> String {
+    let text = text.trim();
+    let start = text.rfind([' ', '*']).expect("a type") + 1;
+    let (kind, name) = text.split_at(start);
+    let kind = match kind.trim_end() {
+        "const uint8_t *" => "*const u8",
+        "uint8_t *" => "*mut u8",
+        "uint64_t *" => "*mut u64",
+        "uint64_t" => "u64",
+        "size_t" => "usize",
+        kind => panic!("another type: {kind}"),
+    };
+    format!("{name}: {kind}")
+}
+
+fn rust_functions() -> Functions {
+    let declarations = FFI.split("pub fn skrapnefja_").skip(1);
+    let parsed = declarations.map(|text| {
+        let (name, rest) = text.split_once('(').expect("parameters");
+        let (parameters, _) = rest.split_once(") -> u32;").expect("an end");
+        let parameters = parameters.split(',').map(str::trim);
+        let parameters = parameters.filter(|text| !text.is_empty());
+        (name.to_string(), parameters.map(String::from).collect())
+    });
+    parsed.collect()
+}
