@@ -1,4 +1,7 @@
 // What the calls on a vault answer.
+ghost use mathlib.Core.Path.{_≡_};
+ghost use Rattle.octets.specs.Rows.{number};
+ghost use Rattle.answer.specs.Meaning.{row};
 
 /// Why a call was refused: the twelve rows, in order. `Chunk` has the number of the chunk.
 pub enum Refusal {
@@ -28,4 +31,24 @@ pub enum NameAnswer {
     Plain(usize),
     Shortened(usize, usize),
     Refused(Refusal),
+}
+
+/// The number of a refusal's row.
+pub fn row_number(refusal: Refusal) -> u32
+    ensures { λ r. ⌜ r ≡ number (row refusal) ⌝ }
+{
+    match refusal {
+        Refusal::KeyOrNonceSize => 1,
+        Refusal::DirectoryId => 2,
+        Refusal::NameSize => 3,
+        Refusal::Length => 4,
+        Refusal::Text => 5,
+        Refusal::Range => 6,
+        Refusal::Room => 7,
+        Refusal::RepeatedNonce => 8,
+        Refusal::Header => 9,
+        Refusal::Chunk(_) => 10,
+        Refusal::HashName => 11,
+        Refusal::SyntheticIv => 12,
+    }
 }

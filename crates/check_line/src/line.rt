@@ -2,6 +2,7 @@
 use crate::decimal::put_decimal;
 use answer::Answer;
 use answer::Refusal;
+use answer::row_number;
 use frame::chunks;
 use octets::slice::copy_at;
 ghost use mathlib.Core.Path.{_≡_};
@@ -9,9 +10,7 @@ ghost use mathlib.Core.List.{_++_};
 ghost use Prim.Native.Nat.{_+_, _≤_};
 ghost use lib.ListN.{length};
 ghost use Rattle.octets.specs.Bytes.{placed};
-ghost use Rattle.octets.specs.Rows.{number};
-ghost use Rattle.answer.specs.Meaning.{meaning};
-ghost use Rattle.answer.specs.Meaning.{row as Meaning·row};
+ghost use Rattle.answer.specs.Meaning.{row, meaning};
 ghost use Rattle.check_line.specs.Line.{decimal, openedLine, refusedLine, refusedAtLine, lineOf};
 
 // Writes a text and behind it a number, from a place on, and returns the place behind both.
@@ -55,32 +54,12 @@ fn write_refused_at(row: u64, i: u64, line: &mut [u8]) -> usize
     b + 1
 }
 
-// The number of a refusal's row.
-fn row(refusal: Refusal) -> u64
-    ensures { λ r. ⌜ r ≡ number (Meaning·row refusal) ⌝ }
-{
-    match refusal {
-        Refusal::KeyOrNonceSize => 1,
-        Refusal::DirectoryId => 2,
-        Refusal::NameSize => 3,
-        Refusal::Length => 4,
-        Refusal::Text => 5,
-        Refusal::Range => 6,
-        Refusal::Room => 7,
-        Refusal::RepeatedNonce => 8,
-        Refusal::Header => 9,
-        Refusal::Chunk(_) => 10,
-        Refusal::HashName => 11,
-        Refusal::SyntheticIv => 12,
-    }
-}
-
 // Writes the line of a refusal, and returns its length.
 fn write_refusal(refusal: Refusal, line: &mut [u8]) -> usize
-    requires { ⌜ length (lineOf (Meaning·row refusal)) ≤ length (now line) ⌝ }
-    ensures { λ r. ⌜ (r ≡ length (lineOf (Meaning·row refusal))) × (now (line .exit) ≡ placed (lineOf (Meaning·row refusal)) 0 (now (line .entry))) ⌝ }
+    requires { ⌜ length (lineOf (row refusal)) ≤ length (now line) ⌝ }
+    ensures { λ r. ⌜ (r ≡ length (lineOf (row refusal))) × (now (line .exit) ≡ placed (lineOf (row refusal)) 0 (now (line .entry))) ⌝ }
 {
-    let number = row(refusal);
+    let number = row_number(refusal) as u64;
     match refusal {
         Refusal::Chunk(i) => write_refused_at(number, i, line),
         _ => write_refused(number, line),

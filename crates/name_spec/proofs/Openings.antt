@@ -96,10 +96,10 @@ module _ (enc mac id : List ℕ) (d : Directory enc mac id) where
         → openLongName enc mac id (hashName (fullName enc mac id name)) (fullName enc mac id name) out ≡ ended (done (length name ∷ [])) (filled name (length name) out)
     long-opens room h = long-end enc mac id id name out d fits room true (good name fits) h
 
-    -- The room that the text asks for is that of the name.
     right-of : (t : List ℕ) → fullName enc mac id name ≡ t → textRight t ≡ true
     right-of t e = ap textRight (sym e) ∙ full-right enc mac id name (d .enc-bytes) (d .mac-bytes) fits
 
+    -- The room that the text asks for is that of the name.
     room-of : (t : List ℕ) → fullName enc mac id name ≡ t → nameLength t ≤ length out → length name ≤ length out
     room-of t e room = omega (arith, ap nameLength e, full-length enc mac id name (d .enc-bytes) (d .mac-bytes) fits, room)
 

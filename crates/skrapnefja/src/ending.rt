@@ -2,30 +2,11 @@
 use answer::Answer;
 use answer::NameAnswer;
 use answer::Refusal;
+use answer::row_number;
 ghost use mathlib.Core.Path.{_≡_};
 ghost use Rattle.octets.specs.Rows.{number};
-ghost use Rattle.answer.specs.Meaning.{row, meaning, nameMeaning};
+ghost use Rattle.answer.specs.Meaning.{meaning, nameMeaning};
 ghost use Rattle.skrapnefja.specs.Results.{lengthAfter, fullLengthAfter, atAfter};
-
-// The number of the row.
-fn row_number(refusal: Refusal) -> u32
-    ensures { λ r. ⌜ r ≡ number (row refusal) ⌝ }
-{
-    match refusal {
-        Refusal::KeyOrNonceSize => 1,
-        Refusal::DirectoryId => 2,
-        Refusal::NameSize => 3,
-        Refusal::Length => 4,
-        Refusal::Text => 5,
-        Refusal::Range => 6,
-        Refusal::Room => 7,
-        Refusal::RepeatedNonce => 8,
-        Refusal::Header => 9,
-        Refusal::Chunk(_) => 10,
-        Refusal::HashName => 11,
-        Refusal::SyntheticIv => 12,
-    }
-}
 
 // Ends a call that answers a length.
 pub fn end(answer: Answer, length: &mut u64) -> u32

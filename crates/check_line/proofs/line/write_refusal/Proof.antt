@@ -42,8 +42,11 @@ told r n e h = ap refusedLine e ∙ ap lineOf (alone r h)
 told-at : (r : Refusal) (n i : ℕ) → n ≡ number (row r) → r ≡ Chunk i → refusedAtLine n i ≡ lineOf (row r)
 told-at r n i e f = ap (λ (k : ℕ). refusedAtLine k i) (e ∙ ap (λ (x : Refusal). number (row x)) f) ∙ ap (λ (x : Refusal). lineOf (row x)) (sym f)
 
-row-requires : tie.Need-row-requires
-row-requires c κs = search needs
+row-number-requires : tie.Need-row-number-requires
+row-number-requires c κs = search needs
+
+cast-number : tie.Need-cast-number
+cast-number c = search needs
 
 enum-known-refusal : tie.Need-enum-known-refusal
 enum-known-refusal c = search needs
@@ -52,13 +55,13 @@ write-refused-at-requires : tie.Need-write-refused-at-requires
 write-refused-at-requires c κs =
     let s = c .before .before .before .before .before .before in
     let g = c .before .before .refusal .given in
-    let n = c .before .before .before .before .row in
+    let n = c .before .before .before .before .row-number in
     omega (arith, s .pre, ap length (told-at (s .args .refusal) (n .result) (g .0 .0) (n .ensures) (g .1)))
 
 write-refused-requires : tie.Need-write-refused-requires
 write-refused-requires c κs =
     let s = c .before .before .before .before in
-    let n = c .before .before .row in
+    let n = c .before .before .row-number in
     omega (arith, s .pre, ap length (told (s .args .refusal) (n .result) (n .ensures) (c .before .match .keys2)))
 
 same-length : tie.Need-same-length
@@ -67,7 +70,7 @@ same-length c = search needs
 returns : tie.Need-returns
 returns c =
     let g = c .before .before .before .before .before .refusal .given in
-    let n = c .before .before .before .before .before .before .before .row in
+    let n = c .before .before .before .before .before .before .before .row-number in
     written-as (c .before .before .before .before .before .before .before .before .before .args .line .now) (told-at (c .before .before .before .before .before .before .before .before .before .args .refusal) (n .result) (g .0 .0) (n .ensures) (g .1)) (c .before .before .write-refused-at .ensures)
 
 same-length-2 : tie.Need-same-length-2
@@ -75,14 +78,15 @@ same-length-2 c = search needs
 
 returns-2 : tie.Need-returns-2
 returns-2 c =
-    let n = c .before .before .before .before .before .row in
+    let n = c .before .before .before .before .before .row-number in
     written-as (c .before .before .before .before .before .before .before .args .line .now) (told (c .before .before .before .before .before .before .before .args .refusal) (n .result) (n .ensures) (c .before .before .before .before .match .keys2)) (c .before .before .write-refused .ensures)
 
 pub write-refusal-spec : {M : Type 1} → statement M
 write-refusal-spec =
     tie.close
     (tie.spec
-    row-requires
+    row-number-requires
+    cast-number
     enum-known-refusal
     write-refused-at-requires
     write-refused-requires
