@@ -1,0 +1,103 @@
+//! Faults of names and paths.
+
+use super::{flip, resize};
+use crate::case::{Call, Case};
+use crate::common::random::Random;
+use crate::make;
+use second::base64url;
+
+pub fn directory_id(case: &mut Case, random: &mut Random) {
+    let id = &mut case.inputs[2];
+    if random.below(2) == 0 {
+        let len = 37 + random.below(2) * random.below(300);
+        *id = (0..len).map(|_| random.below(128) as u8).collect();
+    } else {
+        *id = make::dir_id(random);
+        id.truncate(35);
+        let place = random.below(id.len() + 1);
+        id.insert(place, 128 + random.below(128) as u8);
+    }
+}
+
+pub fn name_size(case: &mut Case, random: &mut Random) {
+    let len = random.below(2) * (256 + random.below(2) * random.below(1000));
+    case.inputs[3] = random.bytes(len);
+}
+
+/// Breaks the text form. That of a plain name can also be too long.
+pub fn text(case: &mut Case, random: &mut Random) {
+    let call = case.call;
+    let text = case.inputs.last_mut().expect("a text");
+    let place = random.below(text.len());
+    match random.below(7) {
+        0 => text[place] = b"+/ ,\0\x80\xff\n*"[random.below(9)],
+        1 => text.truncate(place),
+        2 => drop(text.remove(place)),
+        3 => text.insert(place, b'A'),
+        4 => {
+            let last = text.len() - 1 - random.below(4);
+            text[last] ^= 1 + random.below(255) as u8;
+        }
+        5 => {
+            let len = [random.below(17), 272 + random.below(100)][random.below(2)];
+            *text = full_name(&random.bytes(len));
+        }
+        _ if call == Call::OpenName => {
+            let len = 163 + random.below(109);
+            *text = full_name(&random.bytes(len));
+        }
+        _ => spare_bits(text, random),
+    }
+}
+
+/// Spare bits that are not all zero: the last character of 17 bytes has two of
+/// them, that of 19 bytes has four.
+fn spare_bits(text: &mut Vec<u8>, random: &mut Random) {
+    let (len, behind) = [(17, "=.c9r"), (19, "==.c9r")][random.below(2)];
+    *text = full_name(&random.bytes(len));
+    let last = text.len() - behind.len() - 1;
+    text[last] = b"BCD"[random.below(3)];
+}
+
+/// Another stored name, or a full name that need not be shortened.
+pub fn hash_name(case: &mut Case, random: &mut Random) {
+    match random.below(4) {
+        0 => flip(&mut case.inputs[3], random),
+        1 => {
+            let len = [random.below(32), 33 + random.below(300)][random.below(2)];
+            resize(&mut case.inputs[3], len, random);
+        }
+        2 => case.inputs[3][31] = b'r',
+        _ => {
+            let len = 1 + random.below(146);
+            let other = make::open_long_name(random, len);
+            case.inputs = other.inputs;
+            case.buffers = other.buffers;
+        }
+    }
+}
+
+/// Another directory, or another bit of the sealed name.
+pub fn synthetic_iv(case: &mut Case, random: &mut Random) -> bool {
+    if random.below(2) == 0 {
+        let id = make::dir_id(random);
+        if id == case.inputs[2] {
+            return false;
+        }
+        case.inputs[2] = id;
+        return true;
+    }
+    let full = case.inputs.last_mut().expect("a text");
+    let text = &full[..full.len() - 4];
+    let mut sealed = base64url::decode(text, true).expect("a text");
+    flip(&mut sealed, random);
+    *full = full_name(&sealed);
+    if case.call == Call::OpenLongName {
+        case.inputs[3] = make::hash_name(&case.inputs[4]);
+    }
+    true
+}
+
+pub fn full_name(sealed: &[u8]) -> Vec<u8> {
+    (base64url::encode(sealed, true) + ".c9r").into_bytes()
+}

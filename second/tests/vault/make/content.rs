@@ -1,0 +1,58 @@
+//! Headers, chunks, files and ranges.
+
+use super::sizes::number_of_chunk;
+use super::{answer, with_room, HEADER};
+use crate::case::{Call, Case};
+use crate::common::random::Random;
+use second::vault::{self, CHUNK_LEN};
+
+pub fn write_header(random: &mut Random) -> Case {
+    let inputs = [32, 32, 12, 32].map(|len| random.bytes(len)).to_vec();
+    with_room(Call::WriteHeader, random, inputs, &[], HEADER)
+}
+
+pub fn open_header(random: &mut Random) -> Case {
+    let write = write_header(random);
+    let header = answer(&write);
+    let inputs = [&write.inputs[..2], &[header]].concat();
+    with_room(Call::OpenHeader, random, inputs, &[], 32)
+}
+
+pub fn write_chunk(random: &mut Random, len: usize) -> Case {
+    let inputs = [32, 12, 12, len].map(|len| random.bytes(len)).to_vec();
+    let number = number_of_chunk(random);
+    with_room(Call::WriteChunk, random, inputs, &[number], len + 28)
+}
+
+pub fn open_chunk(random: &mut Random, len: usize) -> Case {
+    let write = write_chunk(random, len);
+    let chunk = answer(&write);
+    let inputs = [&write.inputs[..2], &[chunk]].concat();
+    with_room(Call::OpenChunk, random, inputs, &write.numbers, len)
+}
+
+pub fn write_file(random: &mut Random, len: usize) -> Case {
+    let nonces = 12 * len.div_ceil(CHUNK_LEN);
+    let inputs = [32, 32, 12, 32, nonces, len].map(|len| random.bytes(len));
+    let length = vault::file_length(len as u64).expect("within the limit");
+    with_room(
+        Call::WriteFile,
+        random,
+        inputs.to_vec(),
+        &[],
+        length as usize,
+    )
+}
+
+pub fn open_file(random: &mut Random, len: usize) -> Case {
+    let write = write_file(random, len);
+    let file = answer(&write);
+    let inputs = [&write.inputs[..2], &[file]].concat();
+    with_room(Call::OpenFile, random, inputs, &[], len)
+}
+
+pub fn read_range(random: &mut Random, len: usize, from: u64, count: u64) -> Case {
+    let inputs = open_file(random, len).inputs;
+    let numbers = [from, count];
+    with_room(Call::ReadRange, random, inputs, &numbers, count as usize)
+}

@@ -1,0 +1,67 @@
+//! Names and paths.
+
+use super::{answer, buffer, with_room};
+use crate::case::{Call, Case};
+use crate::common::random::Random;
+use second::vault::{self, WrittenName};
+use second::{base64url, sha1};
+
+pub fn write_name(random: &mut Random, len: usize) -> Case {
+    let (keys, id) = (keys(random), dir_id(random));
+    let inputs = [&keys[..], &[id, random.bytes(len)]].concat();
+    let full = (16 + len).div_ceil(3) * 4 + 4;
+    let (stored, full) = if full <= 220 { (full, 0) } else { (32, full) };
+    let mut case = with_room(Call::WriteName, random, inputs, &[], stored);
+    case.buffers.push(buffer(random, full));
+    case
+}
+
+pub fn open_name(random: &mut Random, len: usize) -> Case {
+    let write = write_name(random, len);
+    let stored = answer(&write);
+    let inputs = [&write.inputs[..3], &[stored]].concat();
+    with_room(Call::OpenName, random, inputs, &[], len)
+}
+
+/// The name can be one that is stored as it is: then row 11 applies.
+pub fn open_long_name(random: &mut Random, len: usize) -> Case {
+    let write = write_name(random, len);
+    let (mut stored, mut full) = (vec![0; 220], vec![0; 368]);
+    let [enc, mac, id, name] = &write.inputs[..] else {
+        panic!("not what a name is written of");
+    };
+    match vault::write_name(enc, mac, id, name, &mut stored, &mut full) {
+        Ok(WrittenName::Plain(length)) => {
+            full = stored[..length].to_vec();
+            stored = hash_name(&full);
+        }
+        Ok(WrittenName::Shortened { full: length, .. }) => {
+            full.truncate(length);
+            stored.truncate(32);
+        }
+        Err(refusal) => panic!("{refusal:?}"),
+    }
+    let inputs = [&write.inputs[..3], &[stored, full]].concat();
+    with_room(Call::OpenLongName, random, inputs, &[], len)
+}
+
+pub fn dir_path(random: &mut Random) -> Case {
+    let (keys, id) = (keys(random), dir_id(random));
+    let inputs = [&keys[..], &[id]].concat();
+    with_room(Call::DirPath, random, inputs, &[], 36)
+}
+
+/// The name that is stored in place of this one.
+pub fn hash_name(full: &[u8]) -> Vec<u8> {
+    let hash = sha1::digest(full);
+    (base64url::encode(&hash, true) + ".c9s").into_bytes()
+}
+
+pub fn dir_id(random: &mut Random) -> Vec<u8> {
+    let len = random.below(37);
+    (0..len).map(|_| random.below(128) as u8).collect()
+}
+
+fn keys(random: &mut Random) -> [Vec<u8>; 2] {
+    [random.array::<32>(), random.array()].map(Vec::from)
+}
