@@ -1,6 +1,6 @@
 //! How often each call ended in what.
 
-use crate::case::{Call, End, OLD_OTHER};
+use crate::case::{Call, End};
 use std::fmt::{self, Display, Formatter};
 
 /// Done, rows 1 to 12, and done with a shortened name.
@@ -18,7 +18,6 @@ impl Tally {
         } else {
             end.row as usize
         };
-        assert!(!shortened || end.other != OLD_OTHER, "full_length not set");
         self.0[call as usize][column] += 1;
     }
 
