@@ -1,8 +1,8 @@
 //! Calls of the library.
 
-/// Calls a function of [`ffi`](crate::ffi). Each argument is an input slice
-/// (`in`), a buffer (`out`), a number (`val`) or a result to set (`set`), in
-/// the function's own order. Exported for the comparisons only.
+/// Calls a function of [`ffi`](crate::ffi), which is unsafe. Each argument is
+/// an input slice (`in`), a buffer (`out`), a number (`val`) or a result to set
+/// (`set`), in the function's own order. Exported for the comparisons only.
 #[doc(hidden)]
 #[macro_export]
 macro_rules! call {
@@ -22,12 +22,22 @@ macro_rules! call {
         $crate::call!(@ $function ($($passed,)* &mut $result,) $($rest)*)
     };
     (@ $function:ident ($($passed:expr,)*)) => {
+        $crate::ffi::$function($($passed),*)
+    };
+}
+
+/// The same, with references that a function was lent and with numbers of its
+/// own.
+macro_rules! safely {
+    ($($call:tt)*) => {
         // SAFETY: each pointer is that of a slice, with its length, or of a
         // number. They are valid for the call, which keeps none of them, and
         // what is borrowed mutably overlaps nothing else.
-        unsafe { $crate::ffi::$function($($passed),*) }
+        unsafe { $crate::call!($($call)*) }
     };
 }
+
+pub(crate) use safely;
 
 use crate::Refusal;
 

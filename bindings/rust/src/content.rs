@@ -1,7 +1,6 @@
 //! Headers, chunks, files and ranges.
 
-use crate::call;
-use crate::call::done;
+use crate::call::{done, safely};
 use crate::Refusal;
 
 /// The bytes in a file header.
@@ -26,7 +25,7 @@ pub fn write_header(
     out: &mut [u8],
 ) -> Result<usize, Refusal> {
     let mut length = 0;
-    let status = call!(skrapnefja_write_header:
+    let status = safely!(skrapnefja_write_header:
         in enc, in mac, in nonce, in content_key, out out, set length,);
     done(status, length, 0)
 }
@@ -40,7 +39,7 @@ pub fn open_header(
     out: &mut [u8],
 ) -> Result<usize, Refusal> {
     let mut length = 0;
-    let status = call!(skrapnefja_open_header: in enc, in mac, in header, out out, set length,);
+    let status = safely!(skrapnefja_open_header: in enc, in mac, in header, out out, set length,);
     done(status, length, 0)
 }
 
@@ -55,7 +54,7 @@ pub fn write_chunk(
     out: &mut [u8],
 ) -> Result<usize, Refusal> {
     let mut length = 0;
-    let status = call!(skrapnefja_write_chunk:
+    let status = safely!(skrapnefja_write_chunk:
         in content_key, in header_nonce, val number, in nonce, in cleartext, out out, set length,);
     done(status, length, 0)
 }
@@ -70,7 +69,7 @@ pub fn open_chunk(
     out: &mut [u8],
 ) -> Result<usize, Refusal> {
     let (mut length, mut at) = (0, 0);
-    let status = call!(skrapnefja_open_chunk:
+    let status = safely!(skrapnefja_open_chunk:
         in content_key, in header_nonce, val number, in chunk, out out, set length, set at,);
     done(status, length, at)
 }
@@ -88,7 +87,7 @@ pub fn write_file(
     out: &mut [u8],
 ) -> Result<usize, Refusal> {
     let mut length = 0;
-    let status = call!(skrapnefja_write_file:
+    let status = safely!(skrapnefja_write_file:
         in enc, in mac, in header_nonce, in content_key, in chunk_nonces, in cleartext,
         out out, set length,);
     done(status, length, 0)
@@ -98,7 +97,7 @@ pub fn write_file(
 /// [`cleartext_length`] tells before. Refused with rows 1, 4, 7, 9 and 10.
 pub fn open_file(enc: &[u8], mac: &[u8], file: &[u8], out: &mut [u8]) -> Result<usize, Refusal> {
     let (mut length, mut at) = (0, 0);
-    let status = call!(skrapnefja_open_file:
+    let status = safely!(skrapnefja_open_file:
         in enc, in mac, in file, out out, set length, set at,);
     done(status, length, at)
 }
@@ -116,7 +115,7 @@ pub fn read_range(
     out: &mut [u8],
 ) -> Result<usize, Refusal> {
     let (mut length, mut at) = (0, 0);
-    let status = call!(skrapnefja_read_range:
+    let status = safely!(skrapnefja_read_range:
         in enc, in mac, in file, val from, val count, out out, set length, set at,);
     done(status, length, at)
 }
@@ -124,13 +123,13 @@ pub fn read_range(
 /// The length of the file with a cleartext of this length. Refused with row 4.
 pub fn file_length(cleartext_length: u64) -> Result<usize, Refusal> {
     let mut length = 0;
-    let status = call!(skrapnefja_file_length: val cleartext_length, set length,);
+    let status = safely!(skrapnefja_file_length: val cleartext_length, set length,);
     done(status, length, 0)
 }
 
 /// The length of the cleartext in a file of this length. Refused with row 4.
 pub fn cleartext_length(file_length: u64) -> Result<usize, Refusal> {
     let mut length = 0;
-    let status = call!(skrapnefja_cleartext_length: val file_length, set length,);
+    let status = safely!(skrapnefja_cleartext_length: val file_length, set length,);
     done(status, length, 0)
 }

@@ -1,7 +1,6 @@
 //! Names of entries, and paths of directories.
 
-use crate::call;
-use crate::call::done;
+use crate::call::{done, safely};
 use crate::Refusal;
 
 /// The longest name, in bytes.
@@ -42,7 +41,7 @@ pub fn write_name(
     full: &mut [u8],
 ) -> Result<WrittenName, Refusal> {
     let (mut length, mut full_length) = (0, 0);
-    let status = call!(skrapnefja_write_name:
+    let status = safely!(skrapnefja_write_name:
         in enc, in mac, in dir_id, in name, out stored, out full, set length, set full_length,);
     let stored = done(status, length, 0)?;
     Ok(match full_length as usize {
@@ -61,7 +60,7 @@ pub fn open_name(
     out: &mut [u8],
 ) -> Result<usize, Refusal> {
     let mut length = 0;
-    let status = call!(skrapnefja_open_name:
+    let status = safely!(skrapnefja_open_name:
         in enc, in mac, in dir_id, in stored, out out, set length,);
     done(status, length, 0)
 }
@@ -77,7 +76,7 @@ pub fn open_long_name(
     out: &mut [u8],
 ) -> Result<usize, Refusal> {
     let mut length = 0;
-    let status = call!(skrapnefja_open_long_name:
+    let status = safely!(skrapnefja_open_long_name:
         in enc, in mac, in dir_id, in stored, in full, out out, set length,);
     done(status, length, 0)
 }
@@ -86,6 +85,6 @@ pub fn open_long_name(
 /// bytes, and gives their number. Refused with rows 1, 2 and 7.
 pub fn dir_path(enc: &[u8], mac: &[u8], dir_id: &[u8], out: &mut [u8]) -> Result<usize, Refusal> {
     let mut length = 0;
-    let status = call!(skrapnefja_dir_path: in enc, in mac, in dir_id, out out, set length,);
+    let status = safely!(skrapnefja_dir_path: in enc, in mac, in dir_id, out out, set length,);
     done(status, length, 0)
 }

@@ -68,57 +68,66 @@ fn run(
     length: &mut u64,
     other: &mut u64,
 ) -> u32 {
-    match (case.call, inputs, &case.numbers[..], buffers) {
-        (Call::WriteHeader, [enc, mac, nonce, content_key], [], [out]) => {
-            call!(skrapnefja_write_header:
-                in enc, in mac, in nonce, in content_key, out out, val length,)
+    // SAFETY: each pointer is that of a slice, with its length, or of a number,
+    // and no two of them overlap.
+    unsafe {
+        match (case.call, inputs, &case.numbers[..], buffers) {
+            (Call::WriteHeader, [enc, mac, nonce, content_key], [], [out]) => {
+                call!(skrapnefja_write_header:
+                    in enc, in mac, in nonce, in content_key, out out, val length,)
+            }
+            (Call::OpenHeader, [enc, mac, header], [], [out]) => {
+                call!(skrapnefja_open_header: in enc, in mac, in header, out out, val length,)
+            }
+            (Call::WriteChunk, [content_key, header_nonce, nonce, cleartext], &[number], [out]) => {
+                call!(skrapnefja_write_chunk:
+                    in content_key, in header_nonce, val number, in nonce, in cleartext,
+                    out out, val length,)
+            }
+            (Call::OpenChunk, [content_key, header_nonce, chunk], &[number], [out]) => {
+                call!(skrapnefja_open_chunk:
+                    in content_key, in header_nonce, val number, in chunk,
+                    out out, val length, val other,)
+            }
+            (
+                Call::WriteFile,
+                [enc, mac, header_nonce, content_key, nonces, cleartext],
+                [],
+                [out],
+            ) => {
+                call!(skrapnefja_write_file:
+                    in enc, in mac, in header_nonce, in content_key, in nonces, in cleartext,
+                    out out, val length,)
+            }
+            (Call::OpenFile, [enc, mac, file], [], [out]) => {
+                call!(skrapnefja_open_file: in enc, in mac, in file, out out, val length, val other,)
+            }
+            (Call::ReadRange, [enc, mac, file], &[from, count], [out]) => {
+                call!(skrapnefja_read_range:
+                    in enc, in mac, in file, val from, val count, out out, val length, val other,)
+            }
+            (Call::WriteName, [enc, mac, dir_id, name], [], [stored, full]) => {
+                call!(skrapnefja_write_name:
+                    in enc, in mac, in dir_id, in name, out stored, out full, val length, val other,)
+            }
+            (Call::OpenName, [enc, mac, dir_id, stored], [], [out]) => {
+                call!(skrapnefja_open_name:
+                    in enc, in mac, in dir_id, in stored, out out, val length,)
+            }
+            (Call::OpenLongName, [enc, mac, dir_id, stored, full], [], [out]) => {
+                call!(skrapnefja_open_long_name:
+                    in enc, in mac, in dir_id, in stored, in full, out out, val length,)
+            }
+            (Call::DirPath, [enc, mac, dir_id], [], [out]) => {
+                call!(skrapnefja_dir_path: in enc, in mac, in dir_id, out out, val length,)
+            }
+            (Call::FileLength, [], &[number], []) => {
+                call!(skrapnefja_file_length: val number, val length,)
+            }
+            (Call::CleartextLength, [], &[number], []) => {
+                call!(skrapnefja_cleartext_length: val number, val length,)
+            }
+            _ => panic!("not what {:?} takes", case.call),
         }
-        (Call::OpenHeader, [enc, mac, header], [], [out]) => {
-            call!(skrapnefja_open_header: in enc, in mac, in header, out out, val length,)
-        }
-        (Call::WriteChunk, [content_key, header_nonce, nonce, cleartext], &[number], [out]) => {
-            call!(skrapnefja_write_chunk:
-                in content_key, in header_nonce, val number, in nonce, in cleartext,
-                out out, val length,)
-        }
-        (Call::OpenChunk, [content_key, header_nonce, chunk], &[number], [out]) => {
-            call!(skrapnefja_open_chunk:
-                in content_key, in header_nonce, val number, in chunk,
-                out out, val length, val other,)
-        }
-        (Call::WriteFile, [enc, mac, header_nonce, content_key, nonces, cleartext], [], [out]) => {
-            call!(skrapnefja_write_file:
-                in enc, in mac, in header_nonce, in content_key, in nonces, in cleartext,
-                out out, val length,)
-        }
-        (Call::OpenFile, [enc, mac, file], [], [out]) => {
-            call!(skrapnefja_open_file: in enc, in mac, in file, out out, val length, val other,)
-        }
-        (Call::ReadRange, [enc, mac, file], &[from, count], [out]) => {
-            call!(skrapnefja_read_range:
-                in enc, in mac, in file, val from, val count, out out, val length, val other,)
-        }
-        (Call::WriteName, [enc, mac, dir_id, name], [], [stored, full]) => {
-            call!(skrapnefja_write_name:
-                in enc, in mac, in dir_id, in name, out stored, out full, val length, val other,)
-        }
-        (Call::OpenName, [enc, mac, dir_id, stored], [], [out]) => {
-            call!(skrapnefja_open_name:
-                in enc, in mac, in dir_id, in stored, out out, val length,)
-        }
-        (Call::OpenLongName, [enc, mac, dir_id, stored, full], [], [out]) => {
-            call!(skrapnefja_open_long_name:
-                in enc, in mac, in dir_id, in stored, in full, out out, val length,)
-        }
-        (Call::DirPath, [enc, mac, dir_id], [], [out]) => {
-            call!(skrapnefja_dir_path: in enc, in mac, in dir_id, out out, val length,)
-        }
-        (Call::FileLength, [], &[number], []) => {
-            call!(skrapnefja_file_length: val number, val length,)
-        }
-        (Call::CleartextLength, [], &[number], []) => {
-            call!(skrapnefja_cleartext_length: val number, val length,)
-        }
-        _ => panic!("not what {:?} takes", case.call),
     }
 }
