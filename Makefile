@@ -1,16 +1,42 @@
-# `make test` is the whole gate: it proves every crate, tries every must-fail edit, runs the programs, and compares the
-# static libraries with the second program. Its last line is the last line of `rt ci`, printed only if all of it passed.
+# `make test` is the whole gate: it proves every crate, tries every must-fail edit, runs the programs, builds and runs the examples,
+# and compares the static libraries with the second program. Its last line is the last line of `rt ci`, printed only if all of it
+# passed.
 
 SHELL := bash
 .SHELLFLAGS := -eu -o pipefail -c
 .ONESHELL:
-.PHONY: test
+.PHONY: run test libraries soak bench
+
+# Checks the sample vault file with the proved program.
+run:
+	@rt check vault_check
+	cat samples/keys samples/log.c9r | target/bin/vault_check
 
 test:
 	@rt fmt --check
 	log=$$(mktemp)
 	trap 'rm -f "$$log"' EXIT
 	rt ci 2>&1 | tee "$$log"
-	rt staticlib primitives
+	$(MAKE) --no-print-directory libraries
+	mkdir -p target/examples
+	cc -std=c99 -Wall -Wextra -Werror -Iinclude examples/c/vault.c target/staticlib/libskrapnefja.a -o target/examples/vault
+	target/examples/vault
+	(cd bindings/rust && cargo test --offline && cargo run --offline --example vault)
 	(cd second && cargo test --release --offline)
 	tail -n 1 "$$log"
+
+# The static libraries: what firmware links, and the building blocks for the comparisons.
+libraries:
+	@rt staticlib primitives
+	rt staticlib skrapnefja
+
+# Compares random calls: SEED=7 CALLS=1000000 make soak. The seed is printed, and a call that failed can be made again.
+soak: libraries
+	@cd second
+	SEED=$${SEED:-$$(date +%s)} CALLS=$${CALLS:-1000000} cargo test --release --offline --test vault -- random
+
+# Times the library beside the second program, and measures the stack.
+bench: libraries
+	@cd second
+	cargo bench --offline
+	cargo test --release --offline --test stack

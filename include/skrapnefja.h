@@ -32,14 +32,14 @@ extern "C" {
 /* What a function returns. */
 enum skrapnefja_row {
     SKRAPNEFJA_DONE = 0,
-    SKRAPNEFJA_KEY_OR_NONCE_SIZE = 1, /* a key isn't 32 bytes, a nonce isn't 12, or the chunk nonces aren't 12 for each chunk */
-    SKRAPNEFJA_DIRECTORY_ID = 2,      /* the directory ID has more than 36 bytes, or a byte of 128 or more */
+    SKRAPNEFJA_KEY_OR_NONCE_SIZE = 1, /* a key has not 32 bytes, a nonce not 12, or there is not one nonce for each chunk */
+    SKRAPNEFJA_DIRECTORY_ID = 2,      /* the directory ID has more than 36 bytes, or one that is not ASCII */
     SKRAPNEFJA_NAME_SIZE = 3,         /* the name to write has no byte, or more than 255 */
     SKRAPNEFJA_LENGTH = 4,            /* no file has this length, or the cleartext is over the limit; a header isn't 68 bytes; a
                                          chunk's cleartext isn't 1 to 32,768 bytes, or the chunk not 29 to 32,796 */
     SKRAPNEFJA_TEXT = 5,              /* the text of a name is broken; or of more than 220 characters at skrapnefja_open_name */
     SKRAPNEFJA_RANGE = 6,             /* the range ends behind the cleartext */
-    SKRAPNEFJA_ROOM = 7,              /* a buffer is shorter than its part of the answer */
+    SKRAPNEFJA_ROOM = 7,              /* a buffer has not the room for what goes into it */
     SKRAPNEFJA_REPEATED_NONCE = 8,    /* two chunk nonces of a file to write are equal */
     SKRAPNEFJA_HEADER = 9,            /* the header's tag is wrong, or its eight reserved bytes are not all 255 */
     SKRAPNEFJA_CHUNK = 10,            /* the tag of a chunk that is needed is wrong; `at` is the lowest such chunk's number */
