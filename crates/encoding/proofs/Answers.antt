@@ -1,7 +1,7 @@
 -- What the check of a base64url text answers.
 -- Assumes nothing.
 use Prim.Native.Nat.{ℕ, _+_, _-_, _*_, _/_, _%_, _≤_, _<_}
-use mathlib.Core.Path.{_≡_, sym, ap, _∙_}
+use mathlib.Core.Path.{_≡_, refl, sym, ap, _∙_}
 use mathlib.Core.List.{List, map}
 use mathlib.Core.Bool.{Bool, true, false, _&&_}
 use native.Mathlib.Omega.{arith}
@@ -9,12 +9,21 @@ use lib.Dec.{eqb}
 use lib.ListN.{length, take, drop, getD, length-map}
 use Rattle.octets.proofs.Lists.{map-drop, list-tab}
 use Rattle.encoding.specs.Base64url.{canonical, value, known, padLength, body, whole, accepted, decoded}
-use Rattle.encoding.specs.Measures.{measureOf}
+use Rattle.encoding.specs.Measures.{answer, measureOf}
 use Rattle.encoding.specs.declared.base64url.Measure.the-variants.{Accepted, Refused}
 use Rattle.encoding.proofs.Sextets.{canonical-drop}
 use Rattle.encoding.proofs.Characters.{known-all, known-not}
 use Rattle.encoding.proofs.Padding.{bare-body}
 use Rattle.encoding.proofs.Laws.{decoded-length}
+
+-- A text that the check refuses is not accepted.
+pub refused-text : (p : Bool) (t : List ℕ) → measureOf p t ≡ Refused → accepted p t ≡ false
+unfolding measureOf
+refused-text p t e = go (accepted p t) e
+  where
+    go : (b : Bool) → answer b (length (decoded p t)) ≡ Refused → b ≡ false
+    go true e = let z : _≡_ {A = ℕ} 0 1 = cc in absurd (omega arith)
+    go false e = refl
 
 -- ---- a text without padding
 

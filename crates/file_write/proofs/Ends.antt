@@ -16,6 +16,7 @@ use Rattle.octets.proofs.Rows.{first-answers, none-answers}
 use Rattle.octets.specs.Bytes.{filled}
 use Rattle.frame.specs.Layout.{limit, chunks, repeats, fileLength}
 use Rattle.frame.specs.Frame.{Codec, Choice, headRight, fileOf, writeRows, writeFile}
+use Rattle.siv_gcm.proofs.KeySizes.{master-sizes, head-sizes}
 use Rattle.siv_gcm.specs.SivGcm.{sivGcm, headWith, masterKeysRight}
 
 module _ (C : Codec) (c : Choice) (out : List ℕ) where
@@ -65,16 +66,11 @@ module _ (C : Codec) (c : Choice) (out : List ℕ) where
 
 pub sizes-facts : (enc mac n k ns : List ℕ) (m : ℕ) → (masterKeysRight enc mac && (headRight sivGcm (headWith n k) && eqb (length ns) (12 * chunks m))) ≡ true
     → (length enc ≡ 32) × (length n ≡ 12) × (length k ≡ 32) × (length ns ≡ 12 * chunks m)
-unfolding masterKeysRight
 sizes-facts enc mac n k ns m e =
     let p = and-true (masterKeysRight enc mac) _ e in
     let q = and-true (headRight sivGcm (headWith n k)) _ (p .1) in
-    let h = and-true (eqb (length n) 12) (eqb (length k) 32) (q .0) in (
-      eqb-true _ _ (and-true (eqb (length enc) 32) (eqb (length mac) 32) (p .0) .0),
-      eqb-true _ _ (h .0),
-      eqb-true _ _ (h .1),
-      eqb-true _ _ (q .1),
-    )
+    let h = head-sizes n k (q .0) in
+    (master-sizes enc mac (p .0) .0, h .0, h .1, eqb-true _ _ (q .1))
 
 -- What becomes of the first n places of a buffer keeps their length.
 pub front-length : (v d : List ℕ) (n : ℕ) → n ≤ length d → length (v ++ drop n d) ≡ length d → length v ≡ n

@@ -10,19 +10,8 @@ use borrow.Author.Tests.{lt-leb, le-leb}
 use Rattle.octets.specs.Bytes.{same}
 use Rattle.octets.proofs.Equality.{same-not}
 use Rattle.encoding.specs.Base64url.{accepted, decoded}
-use Rattle.encoding.specs.Measures.{answer, measureOf}
-use Rattle.encoding.specs.declared.base64url.Measure.the-variants.{Refused}
 use Rattle.name_spec.specs.Names.{fullEnd, stem, sealedOf, nameLength, textRight}
 use Rattle.name_spec.proofs.Texts.{text-facts}
-
--- A text that the check of base64url refuses is not accepted.
-pub refused-text : (p : Bool) (t : List ℕ) → measureOf p t ≡ Refused → accepted p t ≡ false
-unfolding measureOf
-refused-text p t e = go (accepted p t) e
-  where
-    go : (b : Bool) → answer b (length (decoded p t)) ≡ Refused → b ≡ false
-    go true e = let z : _≡_ {A = ℕ} 0 1 = cc in absurd (omega arith)
-    go false e = refl
 
 module _ (t : List ℕ) where
   -- r is the length, or 0.

@@ -7,22 +7,15 @@ use native.Mathlib.Omega.{arith}
 use lib.ListN.{length, take, drop, length-append}
 use lib.Seq.{take-at, take-all}
 use Rattle.octets.specs.Bytes.{placed, filled}
-use Rattle.octets.proofs.Lists.{drop-front}
+use Rattle.octets.proofs.Lists.{at-front, drop-front}
 
 module _ (s d : List ℕ) (n : ℕ) (h : length s ≡ n) where
-  zero-more : n ≡ 0 + length s
-  zero-more = omega arith
-
-  -- The front became s.
-  pub at-front : s ++ drop n d ≡ placed s 0 d
-  at-front = ap (λ (k : ℕ). s ++ drop k d) zero-more
-
   -- The front is s.
   pub front : take n (placed s 0 d) ≡ s
   front = take-at s (drop (0 + length s) d) n h
 
   pub placed-filled : placed s 0 d ≡ filled s n d
-  placed-filled = sym at-front ∙ ap (λ (l : List ℕ). l ++ drop n d) (sym (take-all n s (omega arith)))
+  placed-filled = sym (at-front s d n h) ∙ ap (λ (l : List ℕ). l ++ drop n d) (sym (take-all n s (omega arith)))
 
 -- After the text x comes the text g.
 pub placed-after : (x g d : List ℕ) (m : ℕ) → length x ≡ m → placed g m (placed x 0 d) ≡ placed (x ++ g) 0 d

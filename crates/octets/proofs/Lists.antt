@@ -76,6 +76,10 @@ part-rest l n a h = take-all (n - a) (drop a l) (rw length-drop (omega arith))
 pub placed-all : (s d : List ℕ) → length d ≡ length s → placed s 0 d ≡ s
 placed-all s d h = ap (λ (l : List ℕ). s ++ l) (drop-all (0 + length s) d (omega arith)) ∙ append-nil s
 
+-- The front of a buffer became s.
+pub at-front : (s d : List ℕ) (n : ℕ) → length s ≡ n → s ++ drop n d ≡ placed s 0 d
+at-front s d n h = let e : n ≡ 0 + length s = omega arith in ap (λ (k : ℕ). s ++ drop k d) e
+
 -- v at the front of a buffer xs, and then c written to the part of it behind v.
 pub placed-rest : (v c d xs : List ℕ) (n : ℕ) → xs ≡ placed v 0 d → length v ≡ n → take n xs ++ (c ++ drop (length xs - n) (drop n xs)) ≡ v ++ c
 placed-rest v c d xs n e l =

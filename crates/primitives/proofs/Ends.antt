@@ -21,10 +21,6 @@ module _ (b : Bool) (s d : List ℕ) where
   unfolding doneIf
   done e = rw (e, doneIf)
 
--- A part at the front of a buffer becomes s.
-pub at-front : (s d : List ℕ) (n : ℕ) → length s ≡ n → s ++ drop n d ≡ placed s 0 d
-at-front s d n h = let e : n ≡ 0 + length s = omega arith in ap (λ (k : ℕ). s ++ drop k d) e
-
 module _ (key nonce aad : List ℕ) (n : ℕ) where
   pub fits-facts : gcmFits key nonce aad n ≡ true → (length key ≡ 32) × (length nonce ≡ 12) × (length aad < 2 ^ 61) × (n ≤ 2 ^ 36 - 32)
   unfolding gcmFits

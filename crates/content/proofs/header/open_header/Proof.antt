@@ -14,7 +14,8 @@ use Rattle.octets.specs.Rows.{done, refused, ended}
 use Rattle.frame.specs.Single.{openHeaderRows}
 use Rattle.frame.proofs.Single.{single-rows-exactly}
 use Rattle.siv_gcm.specs.SivGcm.{headOf, masterKeysRight, codec}
-use Rattle.content.proofs.Calls.{master-sizes, front-filled, front-kept}
+use Rattle.siv_gcm.proofs.KeySizes.{master-sizes}
+use Rattle.content.proofs.Calls.{front-filled, front-kept}
 use Rattle.content.proofs.header.open_header.Statement.{statement}
 use Rattle.content.proofs.header.open_header.Tie as tie
 

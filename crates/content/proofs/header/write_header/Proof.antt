@@ -15,7 +15,8 @@ use Rattle.frame.specs.Frame.{headRight}
 use Rattle.frame.specs.Single.{writeHeaderRows}
 use Rattle.frame.proofs.Single.{single-rows-exactly}
 use Rattle.siv_gcm.specs.SivGcm.{sivGcm, headWith, headerOf, masterKeysRight, codec}
-use Rattle.content.proofs.Calls.{master-sizes, head-sizes, front-filled}
+use Rattle.siv_gcm.proofs.KeySizes.{master-sizes, head-sizes}
+use Rattle.content.proofs.Calls.{front-filled}
 use Rattle.content.proofs.header.write_header.Statement.{statement}
 use Rattle.content.proofs.header.write_header.Tie as tie
 

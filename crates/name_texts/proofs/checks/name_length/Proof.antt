@@ -11,9 +11,10 @@ use borrow.Author.Tests.{not-true, not-false}
 use Rattle.octets.specs.Bytes.{same}
 use Rattle.octets.proofs.Lists.{part-rest}
 use Rattle.encoding.specs.Base64url.{accepted, decoded}
+use Rattle.encoding.proofs.Answers.{refused-text}
 use Rattle.encoding.proofs.Laws.{measured-is-accepted}
 use Rattle.name_spec.specs.Names.{fullEnd, stem}
-use Rattle.name_texts.proofs.Measured.{refused-text, too-short, other-end, not-accepted, too-few, too-many, in-form}
+use Rattle.name_texts.proofs.Measured.{too-short, other-end, not-accepted, too-few, too-many, in-form}
 use borrow.Author.Needs.{needs}
 use Rattle.name_texts.proofs.checks.name_length.Statement.{statement}
 use Rattle.name_texts.proofs.checks.name_length.Tie as tie

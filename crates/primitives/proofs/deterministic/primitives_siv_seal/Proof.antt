@@ -14,7 +14,8 @@ use Rattle.siv.specs.Siv as spec
 use Rattle.siv.specs.Pieces.{pieces}
 use Rattle.siv.proofs.Laws.{length-seal}
 use Rattle.primitives.specs.Results.{end, isSet, sivFits, sivSeal}
-use Rattle.primitives.proofs.Ends.{refused, done, at-front, siv-facts}
+use Rattle.octets.proofs.Lists.{at-front}
+use Rattle.primitives.proofs.Ends.{refused, done, siv-facts}
 use Rattle.primitives.proofs.deterministic.primitives_siv_seal.Statement.{statement}
 use Rattle.primitives.proofs.deterministic.primitives_siv_seal.Tie as tie
 

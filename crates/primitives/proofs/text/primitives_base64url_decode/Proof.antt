@@ -11,21 +11,13 @@ use lib.Dec.{leb}
 use lib.ListN.{length}
 use Rattle.octets.specs.Bytes.{placed}
 use Rattle.encoding.specs.Base64url as spec
-use Rattle.encoding.specs.Measures.{answer, measureOf}
+use Rattle.encoding.proofs.Answers.{refused-text}
 use Rattle.encoding.proofs.Laws.{measured-is-accepted}
 use Rattle.primitives.specs.Results.{isSet}
 use Rattle.primitives.specs.Decoding.{DecodeEnd, decodeEnd, base64urlBytes}
-use Rattle.encoding.specs.declared.base64url.Measure.the-variants.{Accepted, Refused}
+use Rattle.encoding.specs.declared.base64url.Measure.the-variants.{Accepted}
 use Rattle.primitives.proofs.text.primitives_base64url_decode.Statement.{statement}
 use Rattle.primitives.proofs.text.primitives_base64url_decode.Tie as tie
-
-refused-text : (p : Bool) (t : List ℕ) → measureOf p t ≡ Refused → spec.accepted p t ≡ false
-unfolding measureOf
-refused-text p t e = go (spec.accepted p t) e
-  where
-    go : (b : Bool) → answer b (length (spec.decoded p t)) ≡ Refused → b ≡ false
-    go true e = let z : _≡_ {A = ℕ} 0 1 = cc in absurd (omega arith)
-    go false e = refl
 
 facts : (c : tie.After-n) →
     let x = c .before .before .before .before .before .args in
