@@ -6,6 +6,7 @@ use Rattle.file_read.proofs.inside.read_under.Tie as tie
 use Rattle.file_read.proofs.inside.read_under.Reads as reads
 use Prim.Native.Nat.{ℕ, _+_, _-_, _*_, _/_, _≤_, _<_}
 use mathlib.Core.Path.{_≡_, sym, ap, ap₂, _∙_}
+use mathlib.Core.Bool.{true}
 use mathlib.Core.List.{List, [], _∷_}
 use native.Mathlib.Omega.{arith}
 use lib.ListN.{length, take, drop}
@@ -16,7 +17,7 @@ use Rattle.aes_spec.specs.Cipher.{cipher, aes}
 use Rattle.aes.proofs.Ciphers.{under-key}
 use Rattle.frame.specs.Layout.{chunkSize, covering, fileLength, chunkAt, lowestBad, allParts}
 use Rattle.frame.proofs.Pieces.{covers-end, below-good}
-use Rattle.siv_gcm.specs.SivGcm.{sivGcm, headWith, chunkData, Tagged}
+use Rattle.siv_gcm.specs.SivGcm.{sivGcm, headWith}
 use Rattle.file_read.specs.Under.{goodUnder, plainUnder, badUnder}
 use Rattle.file_read.proofs.Under.{under-bad, under-good}
 
@@ -85,8 +86,10 @@ write-range-requires c κs =
     let x = i .args in
     let e = b .before .before .before .before .end-chunk in
     let good = goodUnder (cipher 14 (b .before .before .before .before .before .before .before .before .expand .last .1 .0)) (take 12 (x .file .now)) in
-    let tagged : (j : ℕ) → x .from / 32768 ≤ j → j < x .from / 32768 + covering (x .from) (x .count) → Tagged (cipher 14 (b .before .before .before .before .before .before .before .before .expand .last .1 .0)) (chunkAt sivGcm (x .file .now) j) =
-    λ j l u. (chunkData (take 12 (x .file .now)) j, below-good sivGcm good (x .file .now) (x .from / 32768) (e .result - x .from / 32768) j l (omega (arith, e .ensures, b .before .lowest-bad .ensures, b .if1 .left, u))) in
+    let tagged : (j : ℕ) → x .from / 32768 ≤ j → j < x .from / 32768 + covering (x .from) (x .count) → good j (chunkAt sivGcm (x .file .now) j) ≡ true =
+    λ j l u.
+        below-good sivGcm good (x .file .now) (x .from / 32768) (e .result - x .from / 32768) j l
+        (omega (arith, e .ensures, b .before .lowest-bad .ensures, b .if1 .left, u)) in
     ((i .pre .0, search needs), ((i .pre .1 .1, i .pre .1 .2, i .pre .1 .3), tagged))
 
 same-length : tie.Need-same-length
