@@ -1,10 +1,9 @@
 -- A number below 2^128 in two halves: the sum, the step and the bits.
 -- Assumes nothing.
-use Prim.Native.Nat.{ℕ, zero, suc, _+_, _-_, _*_, _/_, _%_, _^_, _<_, _≤_}
+use Prim.Native.Nat.{ℕ, zero, suc, _+_, _-_, _*_, _/_, _%_, _^_, _<_}
 use mathlib.Core.Path.{_≡_, refl, sym, _∙_, ap, ap₂}
 use native.Mathlib.Omega.{arith}
-use native.Mathlib.Nat.{div-div-eq-div-mul, add-mul-div-right, mul-assoc, add-comm, pow-suc, mul-add-div-right, add-zero}
-use lib.Arith.{digits-div}
+use native.Mathlib.Nat.{mul-assoc, pow-suc, mul-add-div-right, add-zero}
 use lib.Pow.{pow-add, pow-pos}
 use lib.Bits.{bitXor, xor-block, xor-zero-r}
 use Rattle.gcm.specs.Field.{rr, next, mulFrom}
@@ -32,14 +31,6 @@ bit-under k h l n u =
     let p : h * 2 ^ k ≡ h * 2 ^ m * 2 * 2 ^ n = ap (λ (x : ℕ). h * 2 ^ x) e ∙ rw (pow-add 2 (suc m) n, pow-suc 2 m, ← mul-assoc h (2 ^ m * 2) (2 ^ n), ← mul-assoc h (2 ^ m) 2) in
     let q : (h * 2 ^ k + l) / 2 ^ n ≡ h * 2 ^ m * 2 + l / 2 ^ n = ap (λ (x : ℕ). (x + l) / 2 ^ n) p ∙ mul-add-div-right (pow-pos n) (h * 2 ^ m * 2) l in
     sym (ap (λ (x : ℕ). x % 2) q ∙ omega arith)
-
-pub bit-high : (h l n : ℕ) → l < 2 ^ 64 → 64 ≤ n → h / 2 ^ (n - 64) % 2 ≡ (h * 2 ^ 64 + l) / 2 ^ n % 2
-bit-high h l n a k =
-    let m = n - 64 in
-    let e : n ≡ 64 + m = omega arith in
-    let q : (h * 2 ^ 64 + l) / 2 ^ n ≡ h / 2 ^ m =
-    ap (λ (x : ℕ). (h * 2 ^ 64 + l) / 2 ^ x) e ∙ rw (pow-add 2 64 m, ← div-div-eq-div-mul (h * 2 ^ 64 + l) (2 ^ 64) (2 ^ m), digits-div h a) in
-    sym (ap (λ (x : ℕ). x % 2) q)
 
 -- One step of the product.
 pub mul-more : (x z v n b z' v' s : ℕ) → 0 < n → b ≡ x / 2 ^ (n - 1) % 2 → s ≡ b * v → z' ≡ bitXor z s → v' ≡ next v

@@ -1,4 +1,5 @@
 pub mod Halves
+pub mod Linear
 pub mod Counters
 pub mod Hashing
 pub mod Laws

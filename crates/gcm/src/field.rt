@@ -1,6 +1,6 @@
-// The product of SP 800-38D, 6.3, bit by bit.
+// The elements of the field of SP 800-38D, 6.3.
 ghost use mathlib.Core.Path.{_≡_};
-ghost use Prim.Native.Nat.{_<_, _*_, _/_, _%_, _^_};
+ghost use Prim.Native.Nat.{_<_, _*_};
 ghost use lib.Bits.{bitXor};
 ghost use Rattle.gcm.specs.Field as spec;
 ghost use Rattle.gcm.specs.Elements.{value};
@@ -21,7 +21,7 @@ pub fn add(x: Element, y: Element) -> Element
 }
 
 // The element, or 0 where the bit is 0.
-fn scale(bit: u64, v: Element) -> Element
+pub fn scale(bit: u64, v: Element) -> Element
     requires { ⌜ bit < 2 ⌝ }
     ensures { λ r. ⌜ value r ≡ bit * value v ⌝ }
 {
@@ -31,36 +31,11 @@ fn scale(bit: u64, v: Element) -> Element
     }
 }
 
-fn next(v: Element) -> Element
+pub fn next(v: Element) -> Element
     ensures { λ r. ⌜ value r ≡ spec.next (value v) ⌝ }
 {
     Element {
         hi: (v.hi / 2) ^ (v.lo % 2 * 0xe100000000000000),
         lo: v.lo / 2 + v.hi % 2 * 0x8000000000000000,
     }
-}
-
-// The bit that has n bits to its right.
-fn bit_at(x: Element, n: u64) -> u64
-    requires { ⌜ n < 128 ⌝ }
-    ensures { λ r. ⌜ r ≡ value x / 2 ^ n % 2 ⌝ }
-{
-    if n < 64 {
-        return (x.lo >> n) % 2;
-    }
-    (x.hi >> (n - 64)) % 2
-}
-
-pub fn mul(x: Element, y: Element) -> Element
-    ensures { λ r. ⌜ value r ≡ spec.mul (value x) (value y) ⌝ }
-{
-    let mut z = Element { hi: 0, lo: 0 };
-    let mut v = y;
-    let mut n: u64 = 128;
-    while 0 < n {
-        n -= 1;
-        z = add(z, scale(bit_at(x, n), v));
-        v = next(v);
-    }
-    z
 }

@@ -2,3 +2,4 @@
 pub mod aead;
 pub mod field;
 pub mod ghash;
+pub mod table;

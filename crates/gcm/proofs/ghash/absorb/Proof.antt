@@ -14,10 +14,10 @@ use Rattle.gcm.proofs.ghash.absorb.Statement.{statement}
 use Rattle.gcm.proofs.ghash.absorb.Tie as tie
 
 abbrev Inv-loop : tie.InvT-loop
-Inv-loop h s n z₀ i₀ z i = (i ≤ n) × (spec.ghashFrom (value h) (value z₀) (spec.pad s) (blocks (length s)) ≡ rest (value h) s (value z) i)
+Inv-loop h hi lo s n z₀ i₀ z i = (i ≤ n) × (spec.ghashFrom (value h) (value z₀) (spec.pad s) (blocks (length s)) ≡ rest (value h) s (value z) i)
 
 abbrev μ-loop : tie.MeasureT-loop
-μ-loop h s n z₀ i₀ z i = n - i
+μ-loop h hi lo s n z₀ i₀ z i = n - i
 
 loop-holds : tie.Need-loop-holds Inv-loop μ-loop
 loop-holds c =

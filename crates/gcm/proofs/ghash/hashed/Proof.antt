@@ -1,50 +1,25 @@
--- `hashed`: associated data, ciphertext and the block of the lengths, one after the other.
+-- `hashed`: the table is filled, and the hash made by it.
 -- Assumes nothing.
-use Prim.Native.Nat.{ℕ, _+_, _*_, _^_}
-use mathlib.Core.Path.{_∙_, ap}
 use borrow.Author.Needs.{needs}
-use native.Mathlib.Omega.{arith}
-use lib.Bits.{bitXor}
-use lib.ListN.{length}
-use Rattle.ctr.specs.Ctr.{blocks}
-use Rattle.gcm.specs.Elements.{value}
-use Rattle.gcm.specs.Field as field
-use Rattle.gcm.specs.Gcm as spec
-use Rattle.gcm.proofs.Hashing.{hash-all}
 use Rattle.gcm.proofs.ghash.hashed.Statement.{statement}
 use Rattle.gcm.proofs.ghash.hashed.Tie as tie
 
-absorb-requires : tie.Need-absorb-requires
-absorb-requires c κs = search needs
+slice-aggregate-fill : tie.Need-slice-aggregate-fill
+slice-aggregate-fill c = search needs
 
-absorb-requires-2 : tie.Need-absorb-requires-2
-absorb-requires-2 c κs = search needs
+slice-aggregate-fill-2 : tie.Need-slice-aggregate-fill-2
+slice-aggregate-fill-2 c = search needs
 
-mul-t10 : tie.Need-mul-t10
-mul-t10 c = search needs
+fill-requires : tie.Need-fill-requires
+fill-requires c κs = search needs
 
-mul-t13 : tie.Need-mul-t13
-mul-t13 c = search needs
-
-add-requires : tie.Need-add-requires
-add-requires c κs = search needs
-
-mul-requires : tie.Need-mul-requires
-mul-requires c κs = search needs
+hashed-by-requires : tie.Need-hashed-by-requires
+hashed-by-requires c κs = search needs
 
 returns : tie.Need-returns
-returns c =
-    let x = c .before .before .before .before .before .before .args in
-    let h = value (x .h) in
-    let a = x .aad .now in
-    let d = x .ciphertext .now in
-    c .mul .ensures
-    ∙ ap (λ (z : ℕ). field.mul z h) (c .before .add .ensures
-    ∙ ap (λ (z : ℕ). bitXor z (8 * length a * 2 ^ 64 + 8 * length d))
-    (c .before .before .absorb2 .ensures ∙ ap (λ (z : ℕ). spec.ghashFrom h z (spec.pad d) (blocks (length d))) (c .before .before .before .absorb .ensures)))
-    ∙ hash-all h a d (omega arith) (omega arith)
+returns c = c .hashed-by .ensures
 
 pub hashed-spec : {M : Type 1} → statement M
 hashed-spec =
     tie.close
-    (tie.spec absorb-requires absorb-requires-2 mul-t10 mul-t13 add-requires mul-requires returns)
+    (tie.spec slice-aggregate-fill slice-aggregate-fill-2 fill-requires hashed-by-requires returns)

@@ -15,13 +15,13 @@ of-block-requires c κs = search needs
 add-requires : tie.Need-add-requires
 add-requires c κs = search needs
 
-mul-requires : tie.Need-mul-requires
-mul-requires c κs = search needs
+times-requires : tie.Need-times-requires
+times-requires c κs = search needs
 
 returns : tie.Need-returns
 returns c =
     let x = c .before .before .before .args in
-    c .mul .ensures ∙ ap (λ (z : ℕ). spec.mul z (value (x .h))) (c .before .add .ensures ∙ ap (bitXor (value (x .y))) (c .before .before .of-block .ensures))
+    c .times .ensures ∙ ap (λ (z : ℕ). spec.mul z (value (x .h))) (c .before .add .ensures ∙ ap (bitXor (value (x .y))) (c .before .before .of-block .ensures))
 
 pub step-spec : {M : Type 1} → statement M
-step-spec = tie.close (tie.spec of-block-requires add-requires mul-requires returns)
+step-spec = tie.close (tie.spec of-block-requires add-requires times-requires returns)
