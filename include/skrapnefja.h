@@ -3,7 +3,7 @@
  *
  * Slices
  *   A slice is a pointer and a number of bytes, and any bytes and lengths may be passed: a size that is wrong is refused.
- *   A pointer to no bytes may not be null: pass any valid address with the length 0.
+ *   A pointer to no bytes may not be null: pass any other address with the length 0.
  *   `out`, `stored`, `full` of skrapnefja_write_name, and the numbers `length`, `full_length` and `at` are written to. None of
  *   them may overlap another argument. The numbers may not be null.
  *
@@ -44,7 +44,7 @@ enum skrapnefja_row {
     SKRAPNEFJA_HEADER = 9,            /* the header's tag is wrong, or its eight reserved bytes are not all 255 */
     SKRAPNEFJA_CHUNK = 10,            /* the tag of a chunk that is needed is wrong; `at` is the lowest such chunk's number */
     SKRAPNEFJA_HASH_NAME = 11,        /* the full name has 220 characters or fewer, or the stored name isn't its hash */
-    SKRAPNEFJA_SYNTHETIC_IV = 12      /* the name's synthetic IV doesn't match: other keys, another directory, or damage */
+    SKRAPNEFJA_SYNTHETIC_IV = 12      /* the name's synthetic IV doesn't match, as other keys, another directory or damage can cause */
 };
 
 /* Sizes in bytes. */
@@ -121,19 +121,23 @@ uint32_t skrapnefja_open_chunk(const uint8_t *content_key, size_t content_key_le
                                const uint8_t *chunk, size_t chunk_len,
                                uint8_t *out, size_t out_len, uint64_t *length, uint64_t *at);
 
-/* ---- Names and directories. A directory ID is text of at most 36 bytes; that of the root is empty. */
+/*
+ * ---- Names and directories. A directory ID is text of at most 36 bytes; that of the root is empty. A full name is the encrypted
+ * name as text that ends in ".c9r". Up to 220 characters it is what is stored; in place of a longer one its hash name is stored,
+ * 32 characters that end in ".c9s".
+ */
 
 /*
- * Writes what is stored for a name of 1 to 255 bytes in the directory with this ID. A name is stored as it is in at most 220
- * characters: `length` is theirs, `full_length` is 0, and `full` is neither needed nor written. Otherwise it is shortened:
- * `stored` gets 32 characters, and `full` the full name, of `full_length` characters, at most 368. Rows 1, 2, 3, 7.
+ * Writes what is stored for a name of 1 to 255 bytes in the directory with this ID. Where the full name is stored, `length` is its
+ * length, `full_length` is 0, and `full` is neither needed nor written. Where it is shortened, `stored` gets the hash name, and
+ * `full` the full name, of `full_length` characters, at most 368. Rows 1, 2, 3, 7.
  */
 uint32_t skrapnefja_write_name(const uint8_t *enc, size_t enc_len, const uint8_t *mac, size_t mac_len,
                                const uint8_t *dir_id, size_t dir_id_len, const uint8_t *name, size_t name_len,
                                uint8_t *stored, size_t stored_len, uint8_t *full, size_t full_len,
                                uint64_t *length, uint64_t *full_length);
 
-/* Opens a name that is stored as it is: writes the name. Rows 1, 2, 5, 7, 12. */
+/* Opens a stored name that is a full name, unshortened: writes the name. Rows 1, 2, 5, 7, 12. */
 uint32_t skrapnefja_open_name(const uint8_t *enc, size_t enc_len, const uint8_t *mac, size_t mac_len,
                               const uint8_t *dir_id, size_t dir_id_len, const uint8_t *stored, size_t stored_len,
                               uint8_t *out, size_t out_len, uint64_t *length);

@@ -10,7 +10,8 @@ fn main() -> Result<(), Refusal> {
 
     let cleartext = b"14:02 handset 7 takes train 12\n14:05 handset 7 stops train 12\n";
     let chunks = cleartext.len().div_ceil(skrapnefja::CHUNK_LEN);
-    let chunk_nonces: Vec<_> = (0..chunks).flat_map(|i| [i as u8; 12]).collect();
+    let nonce = |i: usize| [[0; 4].as_slice(), &(i as u64).to_be_bytes()].concat();
+    let chunk_nonces: Vec<u8> = (0..chunks).flat_map(nonce).collect();
 
     let mut file = vec![0; skrapnefja::file_length(cleartext.len() as u64)?];
     skrapnefja::write_file(

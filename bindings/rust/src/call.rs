@@ -30,7 +30,8 @@ macro_rules! call {
 /// own.
 macro_rules! safely {
     ($($call:tt)*) => {
-        // SAFETY: each pointer is that of a slice, with its length, or of a
+        // SAFETY: each pointer is that of a slice, with its length, and never
+        // null, also where the slice is empty; or it is that of a
         // number. They are valid for the call, which keeps none of them, and
         // what is borrowed mutably overlaps nothing else.
         unsafe { $crate::call!($($call)*) }

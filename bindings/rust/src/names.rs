@@ -18,7 +18,7 @@ pub const PATH_LEN: usize = 36;
 /// The lengths of a written name.
 #[derive(Clone, Copy, Debug, PartialEq, Eq, Hash)]
 pub enum WrittenName {
-    /// The name is stored as it is, with this length.
+    /// The full name itself is stored, with this length.
     Plain(usize),
     /// The name was too long: what is stored is the hash of the full name.
     Shortened {
@@ -50,7 +50,7 @@ pub fn write_name(
     })
 }
 
-/// Writes the name that is stored as it is, and gives its length. Refused with
+/// Writes the name of a stored full name, and gives its length. Refused with
 /// rows 1, 2, 5, 7 and 12.
 pub fn open_name(
     enc: &[u8],

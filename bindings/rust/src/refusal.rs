@@ -23,7 +23,7 @@ pub enum Refusal {
     Text,
     /// Row 6: the range ends behind the cleartext.
     Range,
-    /// Row 7: a buffer is shorter than its part of the answer.
+    /// Row 7: a buffer has not the room for what goes into it.
     Room,
     /// Row 8: two chunks to write have the same nonce.
     RepeatedNonce,

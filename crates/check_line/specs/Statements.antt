@@ -48,7 +48,7 @@ NeverRoom =
 abbrev pub LineFits : Type 0
 LineFits = (input : List ℕ) → length (checkLine input) ≤ longest
 
--- Given the keys and a file, 65,536 bytes at most, the line tells what opening the file ends in, into any buffer as long as the file.
+-- Given the keys and a file, 65,536 bytes at most, the line tells what opening the file ends in, into any buffer at least as long as the file.
 abbrev pub TellsOpening : Type 0
 TellsOpening =
     (enc mac file out : List ℕ) → length enc ≡ 32 → length mac ≡ 32 → 64 + length file ≤ 65536 → length file ≤ length out

@@ -28,7 +28,7 @@ fn check_vault(input: &[u8], room: &mut [u8]) -> Answer
 }
 
 /// Checks the input, the encryption master key, the MAC master key and a file: writes the line that tells the outcome, and returns its length.
-/// The cleartext goes into room, which must be as long as the input, and line must have 25 bytes; else nothing is written, and 0 is returned.
+/// The cleartext goes into room, which must be at least as long as the input, and line must have at least 25 bytes; else nothing is written, and 0 is returned.
 pub fn check_line(input: &[u8], room: &mut [u8], line: &mut [u8]) -> usize
     ensures { λ r. ⌜ checked r (now (room .exit)) (now (line .exit)) ≡ check (now (input .entry)) (now (room .entry)) (now (line .entry)) ⌝ }
 {

@@ -16,7 +16,7 @@ pub enum Refusal {
     Text,
     /// The range ends behind the cleartext.
     Range,
-    /// A buffer is shorter than its part of the answer.
+    /// A buffer has not the room for what goes into it.
     Room,
     /// Two chunks to write have the same nonce.
     RepeatedNonce,

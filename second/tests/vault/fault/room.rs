@@ -5,7 +5,7 @@ use crate::common::random::Random;
 use crate::make::HEADER;
 use second::vault::{self, CHUNK_LEN};
 
-/// Makes a buffer shorter than its part of the answer.
+/// Makes a buffer too short for what goes into it.
 pub fn room(case: &mut Case, random: &mut Random) -> bool {
     let mut needs: Vec<_> = needs(case).into_iter().enumerate().collect();
     needs.retain(|&(_, need)| need > 0);

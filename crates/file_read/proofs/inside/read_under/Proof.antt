@@ -88,8 +88,8 @@ write-range-requires c κs =
     let good = goodUnder (cipher 14 (b .before .before .before .before .before .before .before .before .expand .last .1 .0)) (take 12 (x .file .now)) in
     let tagged : (j : ℕ) → x .from / 32768 ≤ j → j < x .from / 32768 + covering (x .from) (x .count) → good j (chunkAt sivGcm (x .file .now) j) ≡ true =
     λ j l u.
-        below-good sivGcm good (x .file .now) (x .from / 32768) (e .result - x .from / 32768) j l
-        (omega (arith, e .ensures, b .before .lowest-bad .ensures, b .if1 .left, u)) in
+    below-good sivGcm good (x .file .now) (x .from / 32768) (e .result - x .from / 32768) j l
+    (omega (arith, e .ensures, b .before .lowest-bad .ensures, b .if1 .left, u)) in
     ((i .pre .0, search needs), ((i .pre .1 .1, i .pre .1 .2, i .pre .1 .3), tagged))
 
 same-length : tie.Need-same-length
