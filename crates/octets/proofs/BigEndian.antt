@@ -109,7 +109,3 @@ int-be zero y x = omega (arith, mod-one x)
 int-be (suc n) y x =
     int-append y (be n (x / 256)) (x % 256 ∷ []) ∙ ap (λ (z : ℕ). z * 256 + x % 256) (int-be n y (x / 256))
     ∙ rw (pow-suc 256 n, mod-mul x {m = 256 ^ n} {c = 256} (one-le-pow n 256 (zero-lt-suc 255)) (zero-lt-suc 255), ← mul-assoc y (256 ^ n) 256) (omega arith)
-
-pub int-be-four : (n : ℕ) → n < 2 ^ 32 → int (be 4 n) ≡ n
-unfolding int
-int-be-four n h = int-be 4 0 n ∙ omega arith
