@@ -1,20 +1,24 @@
 -- The laws that `specs/Statements.antt` states.
 -- Assumes nothing.
 use Prim.Native.Nat.{ℕ, zero, suc, _+_, _/_, _^_, _<_}
-use mathlib.Core.Path.{_≡_, refl}
+use mathlib.Core.Path.{_≡_, refl, ap}
 use mathlib.Core.List.{List, [], _∷_}
 use native.Mathlib.Omega.{arith}
 use native.Mathlib.Nat.{mod-lt}
 use lib.Pow.{pow-pos}
 use lib.ListN.{length, length-append, length-replicate}
 use Rattle.octets.specs.Bytes.{Below}
+use Rattle.octets.specs.Words.{wordBytes}
 use Rattle.octets.proofs.BigEndian.{length-be}
 use Rattle.octets.proofs.Bytes.{below-nil, below-cons, bytes-wordBytes}
 use Rattle.octets.proofs.Words.{length-wordBytes}
 use Rattle.sha1.specs.Operations.{plus}
 use Rattle.sha1.specs.Compression.{Variables, vars, added, compress}
 use Rattle.sha1.specs.Message.{padding, padded, initial, hashFrom, sha1}
-use Rattle.sha1.specs.Statements.{LeastPadding, WholeBlocks, TwentyBytes}
+use Rattle.sha1.specs.Running.{finished}
+use Rattle.sha1.specs.Statements.{LeastPadding, WholeBlocks, TwentyBytes, RunsOn, EndsInDigest}
+use Rattle.sha1.proofs.Messages.{hashed-on, after-more}
+use Rattle.sha1.proofs.Padding.{padding-mod}
 
 pub least-padding : LeastPadding
 least-padding n = (omega arith, omega arith)
@@ -48,3 +52,12 @@ twenty-bytes m =
     let h = hashFrom initial (padded m) (length (padded m) / 64) in
     let f = five-hash (padded m) (length (padded m) / 64) in
     (omega (arith, length-wordBytes h, f .0), bytes-wordBytes (f .1))
+
+pub runs-on : RunsOn
+runs-on t r m s a b = rw length-append (after-more a s b)
+
+pub ends-in-digest : EndsInDigest
+unfolding padded sha1 finished
+ends-in-digest t m a =
+    let p : padding (t .length) ≡ padding (length m) = rw (a .count) (padding-mod (length m)) in
+    rw p (ap wordBytes (hashed-on a (padding (length m))))

@@ -1,7 +1,7 @@
 pub mod Vectors
-pub mod Laws
 pub mod ShortForms
 pub mod Schedule
 pub mod Steps
 pub mod Messages
 pub mod Padding
+pub mod Laws

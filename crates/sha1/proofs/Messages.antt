@@ -1,17 +1,17 @@
 -- A message that grows, and its blocks.
 -- Assumes nothing.
 use Prim.Native.Nat.{ℕ, zero, suc, _+_, _*_, _/_, _%_, _^_, _<_, _≤_}
-use mathlib.Core.Path.{_≡_, refl, sym, _∙_, ap, ap₂}
-use mathlib.Core.List.{List, _++_}
+use mathlib.Core.Path.{_≡_, refl, sym, _∙_, ap}
+use mathlib.Core.List.{List, _++_, append-assoc}
 use native.Mathlib.Omega.{arith}
-use native.Mathlib.Nat.{add-suc, add-zero}
-use lib.ListN.{length, take, drop, length-append, length-drop}
-use lib.Seq.{take-all, take-append-le, drop-append-le, drop-append-add, drop-drop}
+use native.Mathlib.Nat.{add-assoc, add-suc, add-zero}
+use lib.ListN.{length, take, drop, length-append, length-take, length-drop}
+use lib.Seq.{take-all, take-append-le, drop-append-le, drop-drop}
 use Rattle.octets.specs.Bytes.{placed}
 use Rattle.octets.proofs.Lists.{drop-all, take-placed}
 use Rattle.sha1.specs.Compression.{compress}
-use Rattle.sha1.specs.Message.{initial, hashFrom}
-use Rattle.sha1.specs.Running.{Running}
+use Rattle.sha1.specs.Message.{hashFrom}
+use Rattle.sha1.specs.Running.{unhashed, After, Updated}
 use Rattle.sha1.specs.declared.Sha1.{Sha1}
 
 -- Whole blocks are the same, whatever comes after them.
@@ -31,75 +31,63 @@ hash-more h t n (suc k) =
     let e : 64 * n + 64 * k ≡ 64 * (n + k) = omega arith in
     rw (add-suc, hash-more h t n k, drop-drop (64 * k) (64 * n) t, e)
 
--- The state t after the message m, and the state r after s, too.
-module _ (t r : Sha1) (m s : List ℕ) (run : Running t m) (long : length (t .waiting) ≡ 64) (more : r .length ≡ (t .length + length s) % 2 ^ 64) where
-  counted : r .length ≡ length (m ++ s) % 2 ^ 64
-  counted = omega (arith, length-append m s, run .count)
+-- The state t after the bytes m, from the hash value h on, and then the bytes s.
+module _ {h m : List ℕ} {n : ℕ} {t : Sha1} (a : After h m n t) (s : List ℕ) where
+  -- The bytes after the whole blocks of m.
+  open-part : unhashed t ++ s ≡ drop (64 * (length m / 64)) (m ++ s)
+  open-part = ap (λ (l : List ℕ). l ++ s) (a .rest) ∙ sym (drop-append-le (64 * (length m / 64)) m s (omega arith))
 
-  same-rest : t .length % 64 ≡ length m % 64
-  same-rest = omega (arith, run .count)
+  blocks : length m / 64 + length (unhashed t ++ s) / 64 ≡ length (m ++ s) / 64
+  blocks = rw open-part (simp (length-drop, length-append) (omega arith))
 
-  -- The hash value of the whole blocks of m.
-  before : t .words ≡ hashFrom initial (m ++ s) (length m / 64)
-  before = run .hashed ∙ sym (hash-front initial m s (length m / 64) (omega arith))
+  pub hashed-on : hashFrom (t .words) (unhashed t ++ s) (length (unhashed t ++ s) / 64) ≡ hashFrom h (m ++ s) (length (m ++ s) / 64)
+  hashed-on =
+      let before : t .words ≡ hashFrom h (m ++ s) (length m / 64) = a .hashed ∙ sym (hash-front h m s (length m / 64) (omega arith)) in
+      rw (before, ← blocks, open-part) (hash-more h (m ++ s) (length m / 64) _)
 
-  -- The bytes after the whole blocks of m, and s.
-  open-part : drop (64 * (length m / 64)) (m ++ s) ≡ drop (64 * (length m / 64)) m ++ s
-  open-part = drop-append-le (64 * (length m / 64)) m s (omega arith)
+  pub after-more : {r : Sha1} → Updated t s r → After h (m ++ s) (n + length s) r
+  after-more b =
+      let e : 64 * (length m / 64) + 64 * (length (unhashed t ++ s) / 64) ≡ 64 * (length (m ++ s) / 64) = omega (arith, blocks) in
+      record { hashed = b .hashed ∙ hashed-on; rest = b .rest ∙ rw (← e, open-part, drop-drop); count = omega (arith, a .count, b .count) }
 
-  joined : take (t .length % 64 + length s) (placed s (t .length % 64) (t .waiting)) ≡ drop (64 * (length m / 64)) (m ++ s)
-  joined =
-      let e : take (t .length % 64) (t .waiting) ≡ drop (64 * (length m / 64)) m = rw same-rest (run .rest) in
-      take-placed s (t .waiting) (t .length % 64) (omega arith) ∙ ap (λ (l : List ℕ). l ++ s) e ∙ sym open-part
+-- Bytes in two parts.
+pub updated-twice : (t q r : Sha1) (s u : List ℕ) → Updated t s q → Updated q u r → Updated t (s ++ u) r
+updated-twice t q r s u a b = rw (length-append, ← append-assoc, ← add-assoc) (after-more a u b)
+
+-- The state r after t and s, in each of the three ways of the code.
+module _ (t r : Sha1) (s : List ℕ) (long : length (t .waiting) ≡ 64) (more : r .length ≡ (t .length + length s) % 2 ^ 64) where
+  size : length (unhashed t ++ s) ≡ t .length % 64 + length s
+  size = simp (length-append, length-take) (omega arith)
+
+  joined : take (t .length % 64 + length s) (placed s (t .length % 64) (t .waiting)) ≡ unhashed t ++ s
+  joined = take-placed s (t .waiting) (t .length % 64) (omega arith)
 
   -- s does not complete a block, and joins the bytes that wait.
-  pub waited : t .length % 64 + length s < 64 → r .words ≡ t .words → r .waiting ≡ placed s (t .length % 64) (t .waiting) → Running r (m ++ s)
+  pub waited : t .length % 64 + length s < 64 → r .words ≡ t .words → r .waiting ≡ placed s (t .length % 64) (t .waiting) → Updated t s r
+  unfolding hashFrom
   waited few w v =
-      let e : length (m ++ s) / 64 ≡ length m / 64 = omega (arith, length-append m s, same-rest) in
-      let f : length (m ++ s) % 64 ≡ t .length % 64 + length s = omega (arith, length-append m s, same-rest) in
-      record { hashed = w ∙ rw e before; rest = rw (f, e, v) joined; count = counted }
+      let e : length (unhashed t ++ s) / 64 ≡ 0 = omega (arith, size) in
+      let f : r .length % 64 ≡ t .length % 64 + length s = omega arith in
+      record { hashed = rw e w; rest = rw (f, e, v) joined; count = more }
 
   -- s completes a block, which is hashed.
-  pub completed : t .length % 64 + length s ≡ 64 → r .words ≡ compress (t .words) (take 64 (placed s (t .length % 64) (t .waiting))) → Running r (m ++ s)
+  pub completed : t .length % 64 + length s ≡ 64 → r .words ≡ compress (t .words) (take 64 (placed s (t .length % 64) (t .waiting))) → Updated t s r
   unfolding hashFrom
   completed full w =
-      let l = length-append m s in
-      let e : length (m ++ s) / 64 ≡ suc (length m / 64) = omega (arith, same-rest) in
-      let f : length (m ++ s) % 64 ≡ 0 = omega (arith, same-rest) in
-      let p : take 64 (placed s (t .length % 64) (t .waiting)) ≡ drop (64 * (length m / 64)) (m ++ s) = ap (λ (i : ℕ). take i (placed s (t .length % 64) (t .waiting))) (sym full) ∙ joined in
-      let k : length (drop (64 * (length m / 64)) (m ++ s)) ≤ 64 = rw length-drop (omega (arith, same-rest)) in
+      let e : length (unhashed t ++ s) / 64 ≡ 1 = omega (arith, size) in
+      let f : r .length % 64 ≡ 0 = omega arith in
+      let p : take 64 (placed s (t .length % 64) (t .waiting)) ≡ unhashed t ++ s =
+      ap (λ (i : ℕ). take i (placed s (t .length % 64) (t .waiting))) (sym full) ∙ joined in
       record {
-        hashed = w ∙ rw (e, p, before, take-all 64 (drop (64 * (length m / 64)) (m ++ s)) k);
-        rest = rw (f, drop-all (64 * (length (m ++ s) / 64)) (m ++ s) (omega arith));
-        count = counted;
+        hashed = w ∙ rw (e, p, take-all 64 (unhashed t ++ s) (omega (arith, size)));
+        rest = rw (e, f) (sym (drop-all 64 (unhashed t ++ s) (omega (arith, size))));
+        count = more;
       }
 
   -- No bytes wait. The whole blocks of s are hashed, and the bytes after them wait.
-  module _ (none : t .length % 64 ≡ 0) where
-    whole : length m ≡ 64 * (length m / 64)
-    whole = omega (arith, same-rest)
-
-    after : (i : ℕ) → drop (64 * (length m / 64) + i) (m ++ s) ≡ drop i s
-    after i = rw (← whole) (drop-append-add m s i)
-
-    blocks : length (m ++ s) / 64 ≡ length m / 64 + length s / 64
-    blocks = omega (arith, length-append m s, whole)
-
-    absorbed-rest : take (length (m ++ s) % 64) (placed (drop (64 * (length s / 64)) s) 0 (t .waiting)) ≡ drop (64 * (length (m ++ s) / 64)) (m ++ s)
-    absorbed-rest =
-        let i = 64 * (length s / 64) in
-        let d = length-drop i s in
-        let e : length (m ++ s) % 64 ≡ 0 + length (drop i s) = omega (arith, length-append m s, same-rest) in
-        let f : 64 * (length (m ++ s) / 64) ≡ 64 * (length m / 64) + i = omega (arith, blocks) in
-        rw (e, f, after i) (take-placed (drop i s) (t .waiting) 0 (omega arith))
-
-    pub absorbed : r .words ≡ hashFrom (t .words) s (length s / 64) → r .waiting ≡ placed (drop (64 * (length s / 64)) s) 0 (t .waiting) → Running r (m ++ s)
-    absorbed w v =
-        let e : s ≡ drop (64 * (length m / 64)) (m ++ s) = sym (rw add-zero at (after 0)) in
-        record {
-          hashed =
-              w ∙ ap₂ (λ (x l : List ℕ). hashFrom x l (length s / 64)) before e ∙ hash-more initial (m ++ s) (length m / 64) (length s / 64)
-              ∙ ap (hashFrom initial (m ++ s)) (sym blocks);
-          rest = rw v absorbed-rest;
-          count = counted;
-        }
+  pub absorbed : t .length % 64 ≡ 0 → r .words ≡ hashFrom (t .words) s (length s / 64)
+      → r .waiting ≡ placed (drop (64 * (length s / 64)) s) 0 (t .waiting) → Updated t s r
+  absorbed none w v =
+      let i = 64 * (length s / 64) in
+      let e : r .length % 64 ≡ 0 + length (drop i s) = rw length-drop (omega arith) in
+      record { hashed = rw none w; rest = rw (none, e, v) (take-placed (drop i s) (t .waiting) 0 (omega arith)); count = more }

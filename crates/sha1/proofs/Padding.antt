@@ -18,24 +18,32 @@ two-words : (x a b : ℕ) → (be 0 x ++ wordBytes (a ∷ [])) ++ wordBytes (b �
 unfolding be wordBytes
 two-words x a b = refl
 
--- The number of bits, in two words, of a length that is known modulo 2^64.
-count-words : (n l bits : ℕ) → n ≡ l % 2 ^ 64 → bits ≡ n * 8 % 2 ^ 64 → be 8 (8 * l) ≡ wordBytes (bits / 2 ^ 32 ∷ bits % 2 ^ 32 ∷ [])
-count-words n l bits e f =
-    let a : 8 * l / 2 ^ 32 % 2 ^ 32 ≡ bits / 2 ^ 32 = omega arith in
-    let b : 8 * l % 2 ^ 32 ≡ bits % 2 ^ 32 = omega arith in
-    be-word 4 (8 * l) ∙ rw (be-word 0 (8 * l / 2 ^ 32), a, b) (two-words _ _ _)
+-- The number of bits of n bytes, modulo 2^64, in two words.
+abbrev bits : ℕ → List ℕ
+bits n = wordBytes (n * 8 % 2 ^ 64 / 2 ^ 32 ∷ n * 8 % 2 ^ 64 % 2 ^ 32 ∷ [])
+
+bits-is : (n : ℕ) → bits n ≡ be 8 (8 * n)
+bits-is n =
+    let a : 8 * n / 2 ^ 32 % 2 ^ 32 ≡ n * 8 % 2 ^ 64 / 2 ^ 32 = omega arith in
+    let b : 8 * n % 2 ^ 32 ≡ n * 8 % 2 ^ 64 % 2 ^ 32 = omega arith in
+    sym (be-word 4 (8 * n) ∙ rw (be-word 0 (8 * n / 2 ^ 32), a, b) (two-words _ _ _))
 
 -- Zeros with the byte 0x80 before them.
 abbrev blank : List ℕ
 blank = set (replicate 72 0) 0 0x80
 
-pub padding-is : (n l bits : ℕ) (tail : List ℕ) → n ≡ l % 2 ^ 64 → bits ≡ n * 8 % 2 ^ 64
-    → tail ≡ placed (wordBytes (bits / 2 ^ 32 ∷ bits % 2 ^ 32 ∷ [])) (1 + zeros n) blank → take (zeros n + 9) tail ≡ padding l
+pub padding-is : (n : ℕ) (tail : List ℕ) → tail ≡ placed (bits n) (1 + zeros n) blank → take (zeros n + 9) tail ≡ padding n
 unfolding padding
-padding-is n l bits tail e f g =
-    let p = wordBytes (bits / 2 ^ 32 ∷ bits % 2 ^ 32 ∷ []) in
-    let z : zeros n ≡ zeros l = omega arith in
-    let a : zeros n + 9 ≡ 1 + zeros n + length p = omega (arith, length-wordBytes (bits / 2 ^ 32 ∷ bits % 2 ^ 32 ∷ [])) in
-    let t : take (1 + zeros n) blank ≡ 0x80 ∷ replicate (zeros l) 0 =
-    rw (one-add, ← z) (ap (λ (s : List ℕ). 0x80 ∷ s) (take-replicate (zeros n) 71 0 (omega arith))) in
-    rw (a, g) (take-placed p blank (1 + zeros n) (omega arith)) ∙ ap₂ (λ (x y : List ℕ). x ++ y) t (sym (count-words n l bits e f))
+padding-is n tail g =
+    let a : zeros n + 9 ≡ 1 + zeros n + length (bits n) = simp length-wordBytes (omega arith) in
+    let t : take (1 + zeros n) blank ≡ 0x80 ∷ replicate (zeros n) 0 =
+    rw one-add (ap (λ (s : List ℕ). 0x80 ∷ s) (take-replicate (zeros n) 71 0 (omega arith))) in
+    rw (a, g) (take-placed (bits n) blank (1 + zeros n) (omega arith)) ∙ ap₂ (λ (x y : List ℕ). x ++ y) t (bits-is n)
+
+-- The padding for a number of bytes that is known modulo 2^64.
+pub padding-mod : (n : ℕ) → padding (n % 2 ^ 64) ≡ padding n
+unfolding padding
+padding-mod n =
+    let z : zeros (n % 2 ^ 64) ≡ zeros n = omega arith in
+    let e : n % 2 ^ 64 * 8 % 2 ^ 64 ≡ n * 8 % 2 ^ 64 = omega arith in
+    rw (z, ← bits-is (n % 2 ^ 64), e, bits-is n)

@@ -2,10 +2,12 @@
 -- Assumes nothing.
 use Prim.Native.Nat.{ℕ, _+_, _*_, _%_, _<_}
 use mathlib.Core.Path.{_≡_}
-use mathlib.Core.List.{List}
+use mathlib.Core.List.{List, _++_}
 use lib.ListN.{length}
 use Rattle.octets.specs.Bytes.{Bytes}
 use Rattle.sha1.specs.Message.{zeros, padded, sha1}
+use Rattle.sha1.specs.Running.{Running, Updated, finished}
+use Rattle.sha1.specs.declared.Sha1.{Sha1}
 
 -- 5.1.1: after the bit 1 come k zero bits, of which 7 are in the byte 0x80, and k is the least solution of l + 1 + k = 448 modulo 512,
 -- where l is the message's length in bits.
@@ -19,3 +21,10 @@ WholeBlocks = (m : List ℕ) → length (padded m) % 64 ≡ 0
 -- The digest has 20 bytes.
 abbrev pub TwentyBytes : Type 0
 TwentyBytes = (m : List ℕ) → (length (sha1 m) ≡ 20) × Bytes (sha1 m)
+
+-- A state after a message m is by s one after m and s, and gives the digest of m at the end.
+abbrev pub RunsOn : Type 0
+RunsOn = (t r : Sha1) (m s : List ℕ) → Running t m → Updated t s r → Running r (m ++ s)
+
+abbrev pub EndsInDigest : Type 0
+EndsInDigest = (t : Sha1) (m : List ℕ) → Running t m → finished t ≡ sha1 m

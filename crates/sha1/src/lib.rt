@@ -8,15 +8,15 @@ use bytes::write_words;
 use octets::slice::copy_at;
 use std::num::wrapping_add_u64;
 ghost use mathlib.Core.Path.{_≡_};
-ghost use mathlib.Core.List.{List, [], _++_};
-ghost use Prim.Native.Nat.{ℕ, _<_, _≤_, _+_, _*_, _%_};
+ghost use mathlib.Core.List.{[]};
+ghost use Prim.Native.Nat.{_<_, _≤_, _+_, _*_, _%_};
 ghost use lib.ListN.{length};
 ghost use Rattle.octets.specs.Words.{wordBytes};
 ghost use Rattle.sha1.specs.Message.{hashFrom, sha1};
-ghost use Rattle.sha1.specs.Running.{Running};
+ghost use Rattle.sha1.specs.Running.{Running, Updated, finished};
 
 // The hash value of the whole blocks so far, the bytes that wait for the rest of their block, and the number of bytes, modulo 2^64.
-// Every value of this type is safe to go on from.
+// Every value of this type, however it was made, can go on: `Updated` and `finished` say what it gives.
 pub struct Sha1 {
     pub words: [u32; 5],
     pub waiting: [u8; 64],
@@ -61,7 +61,7 @@ impl Sha1 {
     // s, which does not complete a block, joins the bytes that wait.
     fn wait(self, s: &[u8]) -> Sha1
         requires { ⌜ self .length % 64 + length (now s) < 64 ⌝ }
-        ensures { λ r. ⌜ ((m : List ℕ) → Running self m → Running r (m ++ now (s .entry))) ⌝ }
+        ensures { λ r. ⌜ Updated self (now (s .entry)) r ⌝ }
     {
         let length = self.length;
         let words = self.words;
@@ -77,7 +77,7 @@ impl Sha1 {
     // s completes the block that waits.
     fn complete(self, s: &[u8]) -> Sha1
         requires { ⌜ self .length % 64 + length (now s) ≡ 64 ⌝ }
-        ensures { λ r. ⌜ ((m : List ℕ) → Running self m → Running r (m ++ now (s .entry))) × (r .length % 64 ≡ 0) ⌝ }
+        ensures { λ r. ⌜ Updated self (now (s .entry)) r ⌝ }
     {
         let length = self.length;
         let words = self.words;
@@ -94,7 +94,7 @@ impl Sha1 {
     // The whole blocks of s are hashed where they stand, and the bytes after them wait. No bytes wait before s.
     fn absorb(self, s: &[u8]) -> Sha1
         requires { ⌜ self .length % 64 ≡ 0 ⌝ }
-        ensures { λ r. ⌜ ((m : List ℕ) → Running self m → Running r (m ++ now (s .entry))) ⌝ }
+        ensures { λ r. ⌜ Updated self (now (s .entry)) r ⌝ }
     {
         let length = self.length;
         let words = self.words;
@@ -110,9 +110,9 @@ impl Sha1 {
         }
     }
 
-    // Takes in s.
+    // Takes in s. A state after a message m becomes one after m and s (`RunsOn` of specs/Statements.antt).
     pub fn update(self, s: &[u8]) -> Sha1
-        ensures { λ r. ⌜ ((m : List ℕ) → Running self m → Running r (m ++ now (s .entry))) ⌝ }
+        ensures { λ r. ⌜ Updated self (now (s .entry)) r ⌝ }
     {
         let have = (self.length % 64) as usize;
         if have == 0 {
@@ -125,9 +125,9 @@ impl Sha1 {
         self.complete(&s[..need]).absorb(&s[need..])
     }
 
-    // The message digest of all that went in. The padding goes in first, and completes the last block.
+    // The padding goes in, and completes the last block. A state after a message gives its message digest (`EndsInDigest`).
     pub fn finish(self) -> [u8; 20]
-        ensures { λ r. ⌜ ((m : List ℕ) → Running self m → r ≡ sha1 m) ⌝ }
+        ensures { λ r. ⌜ r ≡ finished self ⌝ }
     {
         let length = self.length;
         let zeros = ((119 - length % 64) % 64) as usize;

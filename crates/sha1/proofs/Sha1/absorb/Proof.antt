@@ -41,13 +41,13 @@ wrapping-add-u64-requires : tie.Need-wrapping-add-u64-requires
 wrapping-add-u64-requires c κs = search needs
 
 returns : tie.Need-returns
-returns c = λ m run.
+returns c =
     let x = c .before .before .before .before .before .before .before .before .before .args in
     let t = x .self in
     let s = x .s .now in
     let long : length (t .waiting) ≡ 64 = search needs in
     let rest = ap (λ (l : List ℕ). placed l 0 (t .waiting)) (part-rest s (length s) (64 * (length s / 64)) refl) in
-    absorbed t _ m s run long (c .wrapping-add-u64 .ensures) (omega arith) (c .before .before .before .before .before .hash-blocks .ensures) (c .before .before .copy-at .ensures ∙ rest)
+    absorbed t _ s long (c .wrapping-add-u64 .ensures) (omega arith) (c .before .before .before .before .before .hash-blocks .ensures) (c .before .before .copy-at .ensures ∙ rest)
 
 pub absorb-spec : {M : Type 1} → statement M
 absorb-spec =

@@ -35,7 +35,7 @@ returns c =
     let s = x .s .now in
     let long : length (t .waiting) ≡ 64 = search needs in
     let block = ap (λ (l : List ℕ). compress (t .words) (take 64 l)) (c .before .before .before .before .copy-at .ensures) in
-    (λ m run. completed t _ m s run long (c .wrapping-add-u64 .ensures) (omega arith) (c .before .compress .ensures ∙ block), omega arith)
+    completed t _ s long (c .wrapping-add-u64 .ensures) (omega arith) (c .before .compress .ensures ∙ block)
 
 pub complete-spec : {M : Type 1} → statement M
 complete-spec =

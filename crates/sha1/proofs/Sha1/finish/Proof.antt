@@ -1,13 +1,14 @@
 -- `finish`: the padding is what the standard appends, and all blocks are whole then.
 -- Assumes nothing.
-use Prim.Native.Nat.{ℕ, _*_, _/_, _%_, _^_}
-use mathlib.Core.Path.{refl, _∙_, sym, ap}
+use Prim.Native.Nat.{ℕ, _/_}
+use mathlib.Core.Path.{_∙_, sym, ap}
 use mathlib.Core.List.{List, _++_}
 use native.Mathlib.Omega.{arith}
 use lib.ListN.{length}
 use lib.Seq.{length-take-le}
 use Rattle.octets.specs.Words.{wordBytes}
-use Rattle.sha1.specs.Message.{initial, hashFrom, padded, sha1}
+use Rattle.sha1.specs.Message.{hashFrom}
+use Rattle.sha1.specs.Running.{unhashed, finished}
 use Rattle.sha1.proofs.Padding.{padding-is}
 use borrow.Author.Needs.{needs}
 use Rattle.sha1.proofs.Sha1.finish.Statement.{statement}
@@ -53,12 +54,12 @@ digest-of-requires : tie.Need-digest-of-requires
 digest-of-requires c κs = search needs
 
 returns : tie.Need-returns
-unfolding padded sha1
-returns c = λ m run.
-    let n = c .before .before .before .before .before .before .before .before .args .self .length in
-    let e = padding-is n (length m) (n * 8 % 2 ^ 64) _ (run .count) refl (c .before .before .before .before .before .write-words .ensures) in
-    let last = c .before .before .update .ensures m run in
-    c .digest-of .ensures ∙ ap wordBytes (last .hashed ∙ ap (λ (l : List ℕ). hashFrom initial (m ++ l) (length (m ++ l) / 64)) e)
+unfolding finished
+returns c =
+    let t = c .before .before .before .before .before .before .before .before .args .self in
+    let e = padding-is (t .length) _ (c .before .before .before .before .before .write-words .ensures) in
+    let hash = ap (λ (l : List ℕ). hashFrom (t .words) (unhashed t ++ l) (length (unhashed t ++ l) / 64)) e in
+    c .digest-of .ensures ∙ ap wordBytes (c .before .before .update .ensures .hashed ∙ hash)
 
 pub finish-spec : {M : Type 1} → statement M
 finish-spec =

@@ -20,10 +20,10 @@ wrapping-add-u64-requires : tie.Need-wrapping-add-u64-requires
 wrapping-add-u64-requires c κs = search needs
 
 returns : tie.Need-returns
-returns c = λ m run.
+returns c =
     let x = c .before .before .before .before .before .before .before .args in
     let long : length (x .self .waiting) ≡ 64 = search needs in
-    waited (x .self) _ m (x .s .now) run long (c .wrapping-add-u64 .ensures) (omega arith) refl (c .before .before .copy-at .ensures)
+    waited (x .self) _ (x .s .now) long (c .wrapping-add-u64 .ensures) (omega arith) refl (c .before .before .copy-at .ensures)
 
 pub wait-spec : {M : Type 1} → statement M
 wait-spec =
