@@ -1,6 +1,6 @@
-# `make test` is the whole gate: it proves every crate, tries every must-fail edit, runs the programs, builds and runs the examples,
-# and compares the static libraries with the second program. Its last line is the last line of `rt ci`, printed only if all of it
-# passed.
+# `make test` is the whole gate: it holds the text to the formatters and clippy, proves every crate, tries every must-fail edit,
+# runs the programs, builds and runs the examples, and compares the static libraries with the second program. Its last line is the
+# last line of `rt ci`, printed only if all of it passed.
 
 SHELL := bash
 .SHELLFLAGS := -eu -o pipefail -c
@@ -14,6 +14,9 @@ run:
 
 test:
 	@rt fmt --check
+	for folder in bindings/rust second; do
+		(cd "$$folder" && cargo fmt --check && cargo clippy --all-targets --offline -- -D warnings)
+	done
 	log=$$(mktemp)
 	trap 'rm -f "$$log"' EXIT
 	rt ci 2>&1 | tee "$$log"

@@ -19,7 +19,9 @@ fn line(pieces: &[&[u8]]) -> String {
         .expect("`rt check vault_check` has built the program");
     let mut input = program.stdin.take().expect("it is piped");
     for piece in pieces {
-        input.write_all(piece).expect("the program reads to the end");
+        input
+            .write_all(piece)
+            .expect("the program reads to the end");
         thread::sleep(Duration::from_millis(20));
     }
     drop(input);
