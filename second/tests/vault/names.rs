@@ -121,19 +121,10 @@ fn moved(compare: &mut Compare) {
         for here in ids {
             let mut write = make::write_name(&mut compare.random, name);
             write.inputs[2] = here.to_vec();
-            let end = compare.end(&write);
-            assert_eq!(end.row, 0);
+            assert_eq!(compare.row(&write), 0);
             for there in ids {
-                let mut open = match name {
-                    0..=146 => make::open_name(&mut compare.random, name),
-                    _ => make::open_long_name(&mut compare.random, name),
-                };
-                open.inputs[..2].clone_from_slice(&write.inputs[..2]);
+                let mut open = make::open_written(&mut compare.random, &write);
                 open.inputs[2] = there.to_vec();
-                open.inputs[3] = end.buffers[0][..end.length as usize].to_vec();
-                if name > 146 {
-                    open.inputs[4] = end.buffers[1][..end.other as usize].to_vec();
-                }
                 assert_eq!(compare.row(&open), if here == there { 0 } else { 12 });
             }
         }

@@ -1,6 +1,6 @@
 //! Names and paths.
 
-use super::{answer, buffer, with_room};
+use super::{buffer, with_room};
 use crate::case::{Call, Case};
 use crate::common::random::Random;
 use second::vault::{self, WrittenName};
@@ -18,9 +18,21 @@ pub fn write_name(random: &mut Random, len: usize) -> Case {
 
 pub fn open_name(random: &mut Random, len: usize) -> Case {
     let write = write_name(random, len);
-    let stored = answer(&write);
-    let inputs = [&write.inputs[..3], &[stored]].concat();
-    with_room(Call::OpenName, random, inputs, &[], len)
+    open_written(random, &write)
+}
+
+/// The call that opens, in its directory, what this one writes.
+pub fn open_written(random: &mut Random, write: &Case) -> Case {
+    let mut end = crate::predict::end(write);
+    assert_eq!(end.row, 0);
+    end.buffers[0].truncate(end.length as usize);
+    end.buffers[1].truncate(end.other as usize);
+    let (call, texts) = match end.other {
+        0 => (Call::OpenName, 1),
+        _ => (Call::OpenLongName, 2),
+    };
+    let inputs = [&write.inputs[..3], &end.buffers[..texts]].concat();
+    with_room(call, random, inputs, &[], write.inputs[3].len())
 }
 
 /// The name can be one that is stored as it is: then row 11 applies.
