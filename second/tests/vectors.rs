@@ -1,33 +1,24 @@
 //! The published vectors, through `second` and through the static library.
 
 mod common {
+    pub mod fields;
     pub mod primitives;
 }
 
+use common::fields::{bytes, lines};
 use common::primitives::{self, DONE, REFUSED};
 use second::aes::{Aes128, Aes256};
 use second::cmac::{self, Cmac};
 use second::siv::{self, Siv};
-use second::{base32, base64url, gcm, hex, sha1};
+use second::{base32, base64url, gcm, sha1};
 
 /// What is in `out` before a call.
 const OLD: u8 = 0xa5;
-
-/// The fields of each line of a file.
-fn lines(file: &str) -> impl Iterator<Item = Vec<&str>> {
-    let lines = file.lines().filter(|line| !line.starts_with('#'));
-    lines.map(|line| line.split(' ').collect())
-}
 
 /// The lines of a file, each with `N` fields.
 fn cases<const N: usize>(file: &str) -> Vec<[&str; N]> {
     let sized = |fields: Vec<_>| fields.try_into().expect("another number of fields");
     lines(file).map(sized).collect()
-}
-
-fn bytes(field: &str) -> Vec<u8> {
-    let digits = if field == "-" { "" } else { field };
-    hex::decode(digits).expect("not hexadecimal")
 }
 
 fn array<const N: usize>(field: &str) -> [u8; N] {

@@ -11,16 +11,19 @@
 
 #[path = "../common"]
 mod common {
+    pub mod fields;
     pub mod random;
 }
 
 mod case;
 mod chunks;
 mod compare;
+mod distinct;
 mod exchange;
 mod fault;
 mod files;
 mod headers;
+mod known;
 mod lengths;
 mod library;
 mod longest;
@@ -46,7 +49,7 @@ use tally::Tally;
 
 type Part = (&'static str, fn(&mut Compare));
 
-const PARTS: [&[Part]; 12] = [
+const PARTS: [&[Part]; 13] = [
     longest::PARTS,
     files::PARTS,
     ranges::PARTS,
@@ -59,6 +62,7 @@ const PARTS: [&[Part]; 12] = [
     lengths::PARTS,
     points::PARTS,
     stock_program::PARTS,
+    distinct::PARTS,
 ];
 
 /// The least number of calls that a whole run compares.

@@ -1,0 +1,78 @@
+//! Values whose inputs all differ: a program that takes one key, nonce or
+//! number for another does not give them.
+
+use crate::case::{Call, Case};
+use crate::common::fields::{bytes, lines, text};
+use crate::compare::Compare;
+use crate::{known, Part};
+use second::gcm;
+
+pub const PARTS: &[Part] = &[("values of distinct inputs", values)];
+
+fn values(compare: &mut Compare) {
+    let mut kinds = vec![];
+    for fields in lines(include_str!("../../vectors/distinct.txt")) {
+        match fields[..] {
+            ["header", header] => {
+                let inputs = [enc(), mac(), header_nonce(), content_key()];
+                known::header(compare, inputs, bytes(header));
+            }
+            ["reserved", reserved, header] => {
+                reserved_bytes(compare, bytes(reserved), bytes(header));
+            }
+            ["chunk", number, cleartext, chunk] => {
+                let inputs = [content_key(), header_nonce(), nonce(), bytes(cleartext)];
+                let number = u64::from_str_radix(number, 16).expect("a number");
+                known::chunk(compare, inputs, number, bytes(chunk));
+            }
+            ["name", id, name, ref texts @ ..] => {
+                known::name(compare, [enc(), mac(), directory(id), bytes(name)], texts);
+            }
+            ["path", id, path] => known::path(compare, [enc(), mac(), directory(id)], path),
+            _ => panic!("not a value: {fields:?}"),
+        }
+        kinds.push(fields[0]);
+    }
+    let count = |kind| kinds.iter().filter(|&&other| other == kind).count();
+    let counts = ["header", "reserved", "chunk", "name", "path"].map(count);
+    assert_eq!(counts, [1, 1, 2, 6, 2]);
+}
+
+/// The header's tag is right, and it is refused for its reserved bytes alone.
+fn reserved_bytes(compare: &mut Compare, reserved: Vec<u8>, header: Vec<u8>) {
+    let key = enc().try_into().expect("a key");
+    let (nonce, sealed) = header.split_first_chunk().expect("a nonce");
+    let payload = gcm::open(&key, nonce, &[], sealed);
+    assert_eq!(payload, Some([reserved, content_key()].concat()));
+    let row = compare.row(&Case {
+        call: Call::OpenHeader,
+        inputs: vec![enc(), mac(), header],
+        numbers: vec![],
+        buffers: vec![vec![0xa5; 32]],
+    });
+    assert_eq!(row, 9);
+}
+
+fn enc() -> Vec<u8> {
+    (0x00..0x20).collect()
+}
+
+fn mac() -> Vec<u8> {
+    (0x20..0x40).collect()
+}
+
+fn content_key() -> Vec<u8> {
+    (0x40..0x60).collect()
+}
+
+fn header_nonce() -> Vec<u8> {
+    (0xa0..0xac).collect()
+}
+
+fn nonce() -> Vec<u8> {
+    (0xb0..0xbc).collect()
+}
+
+fn directory(id: &str) -> Vec<u8> {
+    text(id).as_bytes().to_vec()
+}
