@@ -1,5 +1,5 @@
-// Published vectors of the building blocks, values of the stock program's tests, and names worked out with OpenSSL, a line each: what
-// it prints is compared with those values.
+// Published vectors of the building blocks, values of the stock program's tests, and values under keys, nonces and a number that all
+// differ (`second/vectors/distinct.txt`), a line each: what it prints is compared with those values.
 use content::chunk::open_chunk;
 use content::chunk::write_chunk;
 use content::header::open_header;
@@ -109,32 +109,26 @@ fn text() {
     line(&base64url);
 }
 
-// The stock program's header, under keys and a nonce of zeros, and the content key that it opens to.
-fn header() {
+// The stock program's header, under keys and a nonce of zeros.
+fn stock_header() {
     let zeros = [0u8; 32];
     let nonce = [0u8; 12];
     let mut header = [0u8; 68];
     write_header(&zeros, &zeros, &nonce, &zeros, &mut header);
     print(&header);
-    let mut key = [255u8; 32];
-    open_header(&zeros, &zeros, &header, &mut key);
-    print(&key);
 }
 
-// Its chunk, and what that opens to.
-fn chunk() {
+// Its chunk.
+fn stock_chunk() {
     let zeros = [0u8; 32];
     let nonce = [0u8; 12];
     let mut chunk = [0u8; 39];
     write_chunk(&zeros, &nonce, 0, &nonce, b"hello world", &mut chunk);
     print(&chunk);
-    let mut cleartext = [0u8; 11];
-    open_chunk(&zeros, &nonce, 0, &chunk, &mut cleartext);
-    print(&cleartext);
 }
 
 // The file of that header and that chunk, what it opens to, and its last five bytes.
-fn file() {
+fn stock_file() {
     let zeros = [0u8; 32];
     let nonce = [0u8; 12];
     let text = b"hello world";
@@ -149,53 +143,87 @@ fn file() {
     print(&part);
 }
 
-// The stock program's path of the root directory, and the path of another one.
-fn path() {
+// The stock program's path of the root directory.
+fn stock_path() {
     let enc = [0x55u8; 32];
     let mac = [0x77u8; 32];
     let mut out = [0u8; 36];
     dir_path(&enc, &mac, b"", &mut out);
     line(&out);
-    dir_path(
-        &enc,
-        &mac,
-        b"5e1a0c6e-6f2b-4d5e-9a55-3a0f2c7b9d10",
-        &mut out,
-    );
+}
+
+// A header, and the content key that it opens to.
+fn header(enc: &[u8], mac: &[u8], nonce: &[u8], content_key: &[u8]) {
+    let mut header = [0u8; 68];
+    write_header(enc, mac, nonce, content_key, &mut header);
+    print(&header);
+    let mut key = [0u8; 32];
+    open_header(enc, mac, &header, &mut key);
+    print(&key);
+}
+
+// A chunk whose number has eight different bytes, and what it opens to.
+fn chunk(content_key: &[u8], header_nonce: &[u8]) {
+    let number = 0x0102030405060708;
+    let nonce = b"\xb0\xb1\xb2\xb3\xb4\xb5\xb6\xb7\xb8\xb9\xba\xbb";
+    let text = b"hello world";
+    let mut chunk = [0u8; 39];
+    write_chunk(content_key, header_nonce, number, nonce, text, &mut chunk);
+    print(&chunk);
+    let mut cleartext = [0u8; 11];
+    open_chunk(content_key, header_nonce, number, &chunk, &mut cleartext);
+    print(&cleartext);
+}
+
+// The path of a directory.
+fn path(enc: &[u8], mac: &[u8], id: &[u8]) {
+    let mut out = [0u8; 36];
+    dir_path(enc, mac, id, &mut out);
     line(&out);
 }
 
-// A name in the root and in another directory, and what the second opens to.
-fn name() {
-    let enc = [0x55u8; 32];
-    let mac = [0x77u8; 32];
-    let id = b"5e1a0c6e-6f2b-4d5e-9a55-3a0f2c7b9d10";
-    let mut stored = [0u8; 36];
+// A name in the root and in a directory, and what the second opens to.
+fn name(enc: &[u8], mac: &[u8], id: &[u8]) {
+    let mut stored = [0u8; 28];
     let mut full = [0u8; 1];
-    write_name(&enc, &mac, b"", b"log.txt", &mut stored, &mut full);
+    write_name(enc, mac, b"", b"a", &mut stored, &mut full);
     line(&stored);
-    write_name(&enc, &mac, id, b"log.txt", &mut stored, &mut full);
+    write_name(enc, mac, id, b"a", &mut stored, &mut full);
     line(&stored);
-    let mut name = [0u8; 7];
-    open_name(&enc, &mac, id, &stored, &mut name);
+    let mut name = [0u8; 1];
+    open_name(enc, mac, id, &stored, &mut name);
     line(&name);
 }
 
-// The shortest name that is shortened: its hash name, its full name, and what the two open to.
-fn long_name() {
-    let enc = [0x55u8; 32];
-    let mac = [0x77u8; 32];
-    let id = b"5e1a0c6e-6f2b-4d5e-9a55-3a0f2c7b9d10";
+// A name that is shortened: its hash name, its full name, and what the two open to.
+fn long_name(enc: &[u8], mac: &[u8], id: &[u8]) {
     let name =
-        b"engine-01234567890123456789012345678901234567890123456789012345678901234567890123456789012345678901234567890123456789012345678901234567890123456789";
+        b"abcdefghijklmnopqrstuvwxyzabcdefghijklmnopqrstuvwxyzabcdefghijklmnopqrstuvwxyzabcdefghijklmnopqrstuvwxyzabcdefghijklmnopqrstuvwxyzabcdefghijklmnopqrstuvwxyz";
     let mut stored = [0u8; 32];
-    let mut full = [0u8; 224];
-    write_name(&enc, &mac, id, name, &mut stored, &mut full);
+    let mut full = [0u8; 236];
+    write_name(enc, mac, id, name, &mut stored, &mut full);
     line(&stored);
     line(&full);
-    let mut opened = [0u8; 147];
-    open_long_name(&enc, &mac, id, &stored, &full, &mut opened);
+    let mut opened = [0u8; 156];
+    open_long_name(enc, mac, id, &stored, &full, &mut opened);
     line(&opened);
+}
+
+// The values under inputs that all differ.
+fn distinct() {
+    let enc =
+        b"\x00\x01\x02\x03\x04\x05\x06\x07\x08\x09\x0a\x0b\x0c\x0d\x0e\x0f\x10\x11\x12\x13\x14\x15\x16\x17\x18\x19\x1a\x1b\x1c\x1d\x1e\x1f";
+    let mac =
+        b"\x20\x21\x22\x23\x24\x25\x26\x27\x28\x29\x2a\x2b\x2c\x2d\x2e\x2f\x30\x31\x32\x33\x34\x35\x36\x37\x38\x39\x3a\x3b\x3c\x3d\x3e\x3f";
+    let content_key =
+        b"\x40\x41\x42\x43\x44\x45\x46\x47\x48\x49\x4a\x4b\x4c\x4d\x4e\x4f\x50\x51\x52\x53\x54\x55\x56\x57\x58\x59\x5a\x5b\x5c\x5d\x5e\x5f";
+    let header_nonce = b"\xa0\xa1\xa2\xa3\xa4\xa5\xa6\xa7\xa8\xa9\xaa\xab";
+    let id = b"e9250eb8-078d-4fc0-8835-be92a313360c";
+    header(enc, mac, header_nonce, content_key);
+    chunk(content_key, header_nonce);
+    path(enc, mac, id);
+    name(enc, mac, id);
+    long_name(enc, mac, id);
 }
 
 fn main() {
@@ -205,10 +233,9 @@ fn main() {
     siv();
     sha1();
     text();
-    header();
-    chunk();
-    file();
-    path();
-    name();
-    long_name();
+    stock_header();
+    stock_chunk();
+    stock_file();
+    stock_path();
+    distinct();
 }
