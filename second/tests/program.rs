@@ -1,6 +1,7 @@
 //! Runs the check program `vault_check` of the repository on inputs whose line
 //! is known, and compares all that it writes.
 
+use second::vault::write_file;
 use std::io::Write;
 use std::path::{Path, PathBuf};
 use std::process::{Command, Stdio};
@@ -37,14 +38,47 @@ fn sample() -> Vec<u8> {
     input
 }
 
+/// The most bytes that the program takes: the keys and a file.
+const MOST: usize = 65_536;
+
+/// Keys and a file that opens, of the most bytes together.
+fn longest() -> Vec<u8> {
+    let (enc, mac) = ([1; 32], [2; 32]);
+    let cleartext = vec![3; 65_348];
+    let nonces: Vec<_> = (0..24).collect();
+    let mut input = [enc, mac].concat();
+    input.resize(MOST, 0);
+    let file = &mut input[64..];
+    let length = write_file(&enc, &mac, &[4; 12], &[5; 32], &nonces, &cleartext, file);
+    assert_eq!(length, Ok(MOST - 64));
+    input
+}
+
 #[test]
 fn sizes_of_the_input() {
     assert_eq!(line(&[]), "refused 1\n");
     assert_eq!(line(&[&[0; 63]]), "refused 1\n");
     assert_eq!(line(&[&[0; 64]]), "refused 4\n");
-    assert_eq!(line(&[&[0; 65_536]]), "refused 9\n");
-    assert_eq!(line(&[&[0; 65_537]]), "refused 4\n");
+}
+
+/// Fails for a program that keeps 65,536 bytes of its input, and so takes one
+/// that is longer for one of that length: it would answer row 9.
+#[test]
+fn longer_input_is_not_taken_for_the_longest() {
+    assert_eq!(line(&[&[0; MOST]]), "refused 9\n");
+    assert_eq!(line(&[&[0; MOST + 1]]), "refused 4\n");
     assert_eq!(line(&[&[0; 200_000]]), "refused 4\n");
+}
+
+/// Fails for the same program, which would open the file at the front.
+#[test]
+fn longer_input_with_a_file_at_its_front_does_not_open() {
+    let mut input = longest();
+    assert_eq!(line(&[&input]), "opened 65348 in 2 chunks\n");
+    for len in [MOST + 1, 200_000] {
+        input.resize(len, 0);
+        assert_eq!(line(&[&input]), "refused 4\n");
+    }
 }
 
 #[test]
