@@ -10,6 +10,9 @@ use lib.ListN.{length}
 use borrow.Author.Tests.{eq-eqb, eqb-true}
 use Rattle.octets.specs.Bytes.{same}
 
+pub true-false : true ≡ false → ⊥
+true-false e = absurd (let z : _≡_ {A = ℕ} 0 1 = cc in omega arith)
+
 pub and-true : (a b : Bool) → (a && b) ≡ true → (a ≡ true) × (b ≡ true)
 and-true true b h = (refl, h)
 and-true false b h = absurd (let z : _≡_ {A = ℕ} 0 1 = cc in omega arith)

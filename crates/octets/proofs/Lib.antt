@@ -6,4 +6,5 @@ pub mod Equality
 pub mod Words
 pub mod BigEndian
 pub mod Tables
+pub mod Tests
 pub mod Rows

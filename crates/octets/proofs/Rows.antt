@@ -1,15 +1,16 @@
--- The answer, and with it the end of a call, is that of the first row that applies.
+-- The answer is that of the first row that applies; so the end of a call goes by the rules that its rows match.
 -- Assumes nothing.
 use mathlib.Core.Path.{_≡_, refl, sym, ap, _∙_}
 use mathlib.Core.Bool.{Bool, true, false, not, cond}
+use mathlib.Core.Logic.{_↔_, _⊎_, inl, inr, ⊎-elim}
 use mathlib.Core.List.{List, [], _∷_}
 use Prim.Native.Nat.{ℕ, zero, suc, _<_}
 use native.Mathlib.Nat.{not-suc-le-zero, le-of-suc-le-suc}
 use lib.ListN.{length}
 use lib.Dec.{eqb}
 use borrow.Author.Tests.{eqb-false, not-true}
-use Rattle.octets.specs.Rows.{AnswerExactly, Outcome, done, refused, refusedAt, Row, answer, First, NoRow, outcomeAt, number, without, distinct, numbered, End, ended, ending, EndsExactly}
-use Rattle.octets.proofs.Equality.{and-true}
+use Rattle.octets.specs.Rows.{AnswerExactly, EndsExactly, Outcome, done, refused, refusedAt, Row, answer, First, NoRow, outcomeAt, number, without, distinct, numbered, End, ended, ending, Succeeded, Rule, Exactly, EndsBy, AnswersBy}
+use Rattle.octets.proofs.Equality.{and-true, true-false}
 
 -- row k, the first that applies, gives the answer
 pub first-answers : (rows : List Row) (last : Outcome) (k : ℕ) → First rows k → answer rows last ≡ outcomeAt rows last k
@@ -95,3 +96,96 @@ ends-exactly rows n l new old =
       ),
       (λ e. exact .1 .0 (ap (λ (x : End). x .outcome) e), none-ends rows l new old),
     )
+
+-- The tests of rows say, one by one, what rules ask for.
+abbrev pub Matches : List Row → List Rule → Type 0
+Matches [] [] = Unit {0}
+Matches [] (x ∷ rules) = ⊥
+Matches (r ∷ rows) [] = ⊥
+Matches (r ∷ rows) (x ∷ rules) = (r .1 ≡ x .1) × ((r .0 ≡ false) ↔ x .0) × Matches rows rules
+
+-- All that rules ask for is met.
+abbrev pub Met : List Rule → Type 0
+Met [] = Unit {0}
+Met (x ∷ rules) = x .0 × Met rules
+
+-- That is the case exactly when no row applies.
+pub met-exactly : (rows : List Row) (rules : List Rule) → Matches rows rules → NoRow rows ↔ Met rules
+met-exactly [] [] m = (λ n. tt, λ n. tt)
+met-exactly [] (x ∷ rules) m = absurd m
+met-exactly (r ∷ rows) [] m = absurd m
+met-exactly (r ∷ rows) (x ∷ rules) m =
+    let next = met-exactly rows rules (m .2) in
+    (λ n. (m .1 .0 (n .0), next .0 (n .1)), λ n. (m .1 .1 (n .0), next .1 (n .1)))
+
+-- And then the call succeeds, and only then.
+pub succeeds-exactly : (rows : List Row) (rules : List Rule) → Matches rows rules → without 0 rows ≡ true → (l new old : List ℕ) → Succeeded (ending (answer rows (done l)) new old) ↔ Met rules
+succeeds-exactly rows rules m w l new old =
+    let met = met-exactly rows rules m in
+    (λ s. met .0 (done-none rows l (s .0) w (s .1)), λ t. (l, none-answers rows (done l) (met .1 t)))
+
+-- A call whose answer a comes from rows goes by the rules that these match.
+module _ (a : Outcome) (l : List ℕ) (given : Outcome → Type 0) (success : Type 0) (gives : (o : Outcome) → given o → a ≡ o) (gave : (o : Outcome) → (number o ≡ 0 → ⊥) → a ≡ o → given o)
+    (succeeds : success → a ≡ done l) (succeeded : a ≡ done l → success) where
+  -- The answer is that of none of these rows, and no success.
+  abbrev Elsewhere : List Row → Type 0
+  Elsewhere rows = (without (number a) rows ≡ true) × (number a ≡ 0 → ⊥)
+
+  -- What the rows before these ask for is met, or one of them gives the answer.
+  abbrev Before : Type 0 → List Row → Type 0
+  Before met rows = met ⊎ Elsewhere rows
+
+  goes-by : (rows : List Row) (rules : List Rule) → Matches rows rules → without 0 rows ≡ true → distinct rows ≡ true → (met : Type 0) → (met → a ≡ answer rows (done l)) → Before met rows → Exactly given success met rules
+  unfolding answer
+  goes-by [] [] m w d met h before = (λ s. ⊎-elim (λ (q : met). q) (λ (n : Elsewhere []). absurd (n .1 (ap number (succeeds s)))) before, λ q. succeeded (h q))
+  goes-by [] (x ∷ rules) m w d met h before = absurd m
+  goes-by (r ∷ rows) [] m w d met h before = absurd m
+  goes-by (r ∷ rows) (x ∷ rules) m w d met h before =
+      let z = and-true (not (eqb (number (r .1)) 0)) (without 0 rows) w in
+      let v = and-true (without (number (r .1)) rows) (distinct rows) d in
+      go (eqb-false (number (r .1)) 0 (not-true (eqb (number (r .1)) 0) (z .0))) (v .0) (λ k b. goes-by rows rules (m .2) (z .1) (v .1) (met × x .0) k b) (r .0) refl before
+    where
+      -- where an earlier row applies this one is not given, and no later one
+      other : Elsewhere (r ∷ rows) → (given (x .1) → ⊥) × (without (number a) rows ≡ true)
+      other n =
+          let p = and-true (not (eqb (number (r .1)) (number a))) (without (number a) rows) (n .0) in
+          (λ g. eqb-false (number (r .1)) (number a) (not-true (eqb (number (r .1)) (number a)) (p .0)) (ap number (m .0 ∙ sym (gives (x .1) g))), p .1)
+
+      go : (number (r .1) ≡ 0 → ⊥) → without (number (r .1)) rows ≡ true
+          → ((met × x .0 → a ≡ answer rows (done l)) → Before (met × x .0) rows → Exactly given success (met × x .0) rules)
+          → (t : Bool) → r .0 ≡ t → Before met (r ∷ rows) → (given (x .1) ↔ (met × (x .0 → ⊥))) × Exactly given success (met × x .0) rules
+      go z v next true e b =
+          let applies : met → a ≡ r .1 = λ q. rw e at (h q) in
+          let unmet : x .0 → ⊥ = λ p. true-false (sym e ∙ m .1 .1 p) in (
+            (
+              λ g. ⊎-elim (λ (q : met). (q, unmet)) (λ (n : Elsewhere (r ∷ rows)). absurd (other n .0 g)) b,
+              λ k. gave (x .1) (λ i. z (ap number (m .0) ∙ i)) (applies (k .0) ∙ m .0),
+            ),
+            next (λ k. absurd (unmet (k .1)))
+                (⊎-elim (λ (q : met). inr (rw (ap number (applies q)) v, λ i. z (sym (ap number (applies q)) ∙ i))) (λ (n : Elsewhere (r ∷ rows)). inr (other n .1, n .1)) b),
+          )
+      go z v next false e b =
+          let skips : met → a ≡ answer rows (done l) = λ q. rw e at (h q) in (
+            (
+              λ g.
+                  ⊎-elim (λ (q : met). absurd (lacks-answer rows (number (r .1)) (done l) (λ i. z (sym i)) v (ap number (sym (skips q) ∙ gives (x .1) g ∙ sym (m .0)))))
+                  (λ (n : Elsewhere (r ∷ rows)). absurd (other n .0 g)) b,
+              λ k. absurd (k .1 (m .1 .0 e)),
+            ),
+            next (λ k. skips (k .0)) (⊎-elim (λ (q : met). inl (q, m .1 .0 e)) (λ (n : Elsewhere (r ∷ rows)). inr (other n .1, n .1)) b),
+          )
+
+pub answers-by : (rows : List Row) (rules : List Rule) → Matches rows rules → numbered rows ≡ true → (l : List ℕ) → AnswersBy rules l (answer rows (done l))
+answers-by rows rules m n l =
+    let a = answer rows (done l) in
+    let w = and-true (without 0 rows) (distinct rows) n in
+    goes-by a l (λ o. a ≡ o) (a ≡ done l) (λ o g. g) (λ o z q. q) (λ s. s) (λ q. q) rows rules m (w .0) (w .1) (Unit {0}) (λ u. refl) (inl tt)
+
+pub ends-by : (rows : List Row) (rules : List Rule) → Matches rows rules → numbered rows ≡ true → (l new old : List ℕ) → EndsBy rules l new old (ending (answer rows (done l)) new old)
+ends-by rows rules m n l new old =
+    let a = answer rows (done l) in
+    let w = and-true (without 0 rows) (distinct rows) n in
+    let e = ending a new old in
+    goes-by a l (λ o. e ≡ ended o old) (e ≡ ended (done l) new) (λ o g. ap (λ (x : End). x .outcome) g)
+    (λ o z q. ap (λ (x : Outcome). ending x new old) q ∙ refusal-leaves o new old z) (λ s. ap (λ (x : End). x .outcome) s)
+    (λ q. ap (λ (x : Outcome). ending x new old) q) rows rules m (w .0) (w .1) (Unit {0}) (λ u. refl) (inl tt)

@@ -1,4 +1,4 @@
--- What a call answers: a list of rows, of which the first that applies is given.
+-- What a call answers: a list of rows, of which the first that applies is given; and rules, which say in words what the rows ask for.
 -- Assumes nothing.
 use mathlib.Core.Path.{_≡_}
 use mathlib.Core.Logic.{_↔_}
@@ -6,7 +6,7 @@ use mathlib.Core.Bool.{Bool, true, false, not, _&&_, cond}
 use mathlib.Core.List.{List, [], _∷_}
 use Prim.Native.Nat.{ℕ, zero, suc, _<_}
 use lib.ListN.{length}
-use lib.Dec.{eqb}
+use lib.Dec.{eqb, ltb}
 
 -- What a call answers: done, with the lengths written; refused by a row; refused by a row that also returns a number.
 pub data Outcome : Type 0 where
@@ -96,3 +96,31 @@ abbrev pub EndsExactly : List Row → List ℕ → List ℕ → List ℕ → End
 EndsExactly rows l new old e =
     ((k : ℕ) → k < length rows → (e ≡ ended (outcomeAt rows (done l) k) old) ↔ First rows k)
     × ((e ≡ ended (done l) new) ↔ NoRow rows)
+
+-- A rule: what a row asks for, in words, and what is answered where that is not met.
+abbrev pub Rule : Type 1
+Rule = Type 0 × Outcome
+
+-- A call goes by rules, exactly. `given o` says that it answers o and changes nothing, `success` that it succeeds, and `met` is what the
+-- rules before these ask for. So a rule's answer is given exactly when what the rules before it ask for is met and what it asks for is not;
+-- and the call succeeds exactly when all is met.
+abbrev pub Exactly : (Outcome → Type 0) → Type 0 → Type 0 → List Rule → Type 0
+Exactly given success met [] = success ↔ met
+Exactly given success met (r ∷ rules) = (given (r .1) ↔ (met × (r .0 → ⊥))) × Exactly given success (met × r .0) rules
+
+-- A call with one buffer goes by rules: it gives a rule's answer and leaves the buffer as it was, or is done with the lengths l and `new` in the buffer.
+abbrev pub EndsBy : List Rule → List ℕ → List ℕ → List ℕ → End → Type 0
+EndsBy rules l new old e = Exactly (λ o. e ≡ ended o old) (e ≡ ended (done l) new) (Unit {0}) rules
+
+-- A call without a buffer goes by rules: it gives a rule's answer, or is done with the lengths l.
+abbrev pub AnswersBy : List Rule → List ℕ → Outcome → Type 0
+AnswersBy rules l a = Exactly (λ o. a ≡ o) (a ≡ done l) (Unit {0}) rules
+
+-- The number of each rule is above that of the one before it, and that of the first above n.
+abbrev pub above : ℕ → List Rule → Bool
+above n [] = true
+above n (r ∷ rules) = ltb n (number (r .1)) && above (number (r .1)) rules
+
+-- The numbers of the rules ascend: where a call goes by them, the lowest of the rows that apply is given.
+abbrev pub Ascending : List Rule → Type 0
+Ascending rules = above 0 rules ≡ true
