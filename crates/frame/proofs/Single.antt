@@ -8,23 +8,30 @@ use native.Mathlib.Omega.{arith}
 use lib.ListN.{length, take, getD}
 use lib.Seq.{length-take-le}
 use lib.Dec.{ltb, leb, eqb}
-use borrow.Author.Tests.{eqb-true, eq-eqb, leb-true, le-leb, ltb-false, le-ltb, lt-ltb, not-false}
+use borrow.Author.Tests.{eqb-true, eq-eqb, leb-true, le-leb, ltb-false, le-ltb, not-false}
 use Rattle.octets.specs.Bytes.{filled}
-use Rattle.octets.specs.Rows.{Outcome, done, refused, refusedAt, NoRow, End, ended, Succeeded}
+use Rattle.octets.specs.Rows.{Outcome, done, refused, refusedAt, NoRow, EndsExactly, End, ended, Succeeded}
 use Rattle.octets.proofs.Bytes.{below-take}
 use Rattle.octets.proofs.Equality.{and-true, true-and}
-use Rattle.octets.proofs.Rows.{ends-exactly, first-answers, none-answers, done-none, none-ends}
+use Rattle.octets.proofs.Rows.{ends-exactly, none-answers, done-none, none-ends}
 use Rattle.frame.specs.Layout.{Sizes, chunkSize, limit, stored, fileLength, clearLength, rightLength}
 use Rattle.frame.specs.Frame.{Head, HeadFits, Codec, keySize, headRight}
 use Rattle.frame.specs.Laws.{ChunkLaws, Laws}
 use Rattle.frame.specs.Single.{ChunkFits, fileLengthOf, clearLengthOf, writeHeaderRows, writeHeader, openHeaderRows, openHeader, writeChunkRows, writeChunk, openChunkRows, openChunk}
-use Rattle.frame.specs.SingleStatements.{LengthsExactly, LengthsInverse, SingleRowsExactly, SingleBytes, HeaderWrittenOpens, HeaderOpensExactly, ChunkWrittenOpens, ChunkOpensExactly}
-use Rattle.frame.proofs.Heads.{right-fits, fits-right}
+use Rattle.frame.specs.SingleStatements.{LengthsInverse, SingleBytes, HeaderWrittenOpens, HeaderOpensExactly, ChunkWrittenOpens, ChunkOpensExactly}
+use Rattle.frame.proofs.Heads.{fits-right}
 use Rattle.frame.proofs.Lengths.{right-lengths}
 
-pub single-rows-exactly : (C : Codec) → SingleRowsExactly C
+-- For code: the end of each call by its rows.
+pub single-ends : (C : Codec)
+    → ((h : Head) (out : List ℕ) → EndsExactly (writeHeaderRows C h (length out)) (C .sizes .header ∷ []) (filled (C .headerOf h) (C .sizes .header) out) out (writeHeader C h out))
+    × ((b out : List ℕ) → EndsExactly (openHeaderRows C b (length out)) (keySize ∷ []) (filled (C .headOf b .key) keySize out) out (openHeader C b out))
+    × ((h : Head) (i : ℕ) (n p out : List ℕ)
+    → EndsExactly (writeChunkRows C h n p (length out)) ((length p + C .sizes .overhead) ∷ []) (filled (C .chunkOf h i n p) (length p + C .sizes .overhead) out) out (writeChunk C h i n p out))
+    × ((h : Head) (i : ℕ) (c out : List ℕ)
+    → EndsExactly (openChunkRows C h i c (length out)) ((length c - C .sizes .overhead) ∷ []) (filled (C .plain h i c) (length c - C .sizes .overhead) out) out (openChunk C h i c out))
 unfolding writeHeaderRows openHeaderRows writeChunkRows openChunkRows writeHeader openHeader writeChunk openChunk
-single-rows-exactly C = (
+single-ends C = (
   λ h out. ends-exactly (writeHeaderRows C h (length out)) refl (C .sizes .header ∷ []) _ out,
   λ b out. ends-exactly (openHeaderRows C b (length out)) refl (keySize ∷ []) _ out,
   λ h i n p out. ends-exactly (writeChunkRows C h n p (length out)) refl ((length p + C .sizes .overhead) ∷ []) _ out,
@@ -41,15 +48,6 @@ abbrev first : Outcome → ℕ
 first (done lengths) = getD lengths 0 0
 first (refused row) = 0
 first (refusedAt row at) = 0
-
-pub lengths-exactly : (z : Sizes) → LengthsExactly z
-unfolding fileLengthOf clearLengthOf
-lengths-exactly z = (
-  λ n h. none-answers ((ltb limit n, refused 4) ∷ []) (done (fileLength z n ∷ [])) (le-ltb limit n h, tt),
-  λ n h. first-answers ((ltb limit n, refused 4) ∷ []) (done (fileLength z n ∷ [])) 0 (lt-ltb limit n h),
-  λ l e. none-answers ((not (rightLength z l), refused 4) ∷ []) (done (clearLength z l ∷ [])) (ap not e, tt),
-  λ l e. first-answers ((not (rightLength z l), refused 4) ∷ []) (done (clearLength z l ∷ [])) 0 (ap not e),
-)
 
 pub lengths-inverse : (z : Sizes) → LengthsInverse z
 unfolding fileLengthOf clearLengthOf
@@ -103,11 +101,11 @@ module _ (C : Codec) (𝓛 : Laws C) where
 
   pub header-written-opens : HeaderWrittenOpens C
   unfolding writeHeader writeHeaderRows
-  header-written-opens h out into bn bk n room =
-      let ok = right-fits z h bn bk (and-true keysRight (headRight z h) (not-false _ (n .0)) .1) in (
-        none-ends (writeHeaderRows C h (length out)) (z .header ∷ []) (filled (headerOf h) (z .header) out) out n
+  header-written-opens h out into ok room roomy =
+      let none : NoRow (writeHeaderRows C h (length out)) = (ap not (true-and keysRight (headRight z h) (𝓛 .keys-right) (fits-right z h ok)), (le-ltb (length out) (z .header) room, tt)) in (
+        none-ends (writeHeaderRows C h (length out)) (z .header ∷ []) (filled (headerOf h) (z .header) out) out none
             ∙ ap (λ (x : ℕ). ended (done (x ∷ [])) (filled (headerOf h) x out)) (sym (𝓛 .header-size h ok)),
-        header-opens h into ok room,
+        header-opens h into ok roomy,
       )
 
 -- ---- the chunk
@@ -165,19 +163,11 @@ module _ (C : Codec) (𝓛 : ChunkLaws C) where
 
   pub chunk-written-opens : ChunkWrittenOpens C
   unfolding writeChunk writeChunkRows
-  chunk-written-opens h i n p out into bh bk bn bp r room =
-      let sizes = and-true (headRight z h) (eqb (length n) (z .nonce)) (not-false _ (r .0)) in
-      let sized = and-true (leb 1 (length p)) (leb (length p) chunkSize) (not-false _ (r .1 .0)) in
-      let ok = right-fits z h bh bk (sizes .0) in
-      let fits : ChunkFits z n p =
-      record {
-        nonce-size = eqb-true (length n) (z .nonce) (sizes .1);
-        some = leb-true 1 (length p) (sized .0);
-        clear-size = leb-true (length p) chunkSize (sized .1);
-        nonce-bytes = bn;
-        clear-bytes = bp;
-      } in (
-        none-ends (writeChunkRows C h n p (length out)) ((length p + z .overhead) ∷ []) (filled (chunkOf h i n p) (length p + z .overhead) out) out r
+  chunk-written-opens h i n p out into ok fits room roomy =
+      let sized = true-and (headRight z h) (eqb (length n) (z .nonce)) (fits-right z h ok) (eq-eqb (length n) (z .nonce) (fits .nonce-size)) in
+      let clear = true-and (leb 1 (length p)) (leb (length p) chunkSize) (le-leb 1 (length p) (fits .some)) (le-leb (length p) chunkSize (fits .clear-size)) in
+      let none : NoRow (writeChunkRows C h n p (length out)) = (ap not sized, (ap not clear, (le-ltb (length out) (length p + z .overhead) room, tt))) in (
+        none-ends (writeChunkRows C h n p (length out)) ((length p + z .overhead) ∷ []) (filled (chunkOf h i n p) (length p + z .overhead) out) out none
             ∙ ap (λ (x : ℕ). ended (done (x ∷ [])) (filled (chunkOf h i n p) x out)) (sym (𝓛 .chunk-size h i n p ok (fits .nonce-size))),
-        chunk-opens h i n p into ok fits room,
+        chunk-opens h i n p into ok fits roomy,
       )

@@ -1,24 +1,26 @@
 -- What the theorems say of a single header and a single chunk, and of lengths.
 -- Assumes nothing.
 use mathlib.Core.Path.{_≡_}
-use mathlib.Core.Bool.{true, false}
 use mathlib.Core.Logic.{_↔_}
 use mathlib.Core.List.{List, [], _∷_}
-use Prim.Native.Nat.{ℕ, _+_, _-_, _≤_, _<_}
+use Prim.Native.Nat.{ℕ, _+_, _-_, _≤_}
 use lib.ListN.{length}
 use Rattle.octets.specs.Bytes.{Bytes, filled}
-use Rattle.octets.specs.Rows.{done, refused, NoRow, EndsExactly, ended, Succeeded}
-use Rattle.frame.specs.Layout.{Sizes, limit, stored, fileLength, clearLength, rightLength}
+use Rattle.octets.specs.Rows.{done, EndsBy, AnswersBy, Ascending, ended, Succeeded}
+use Rattle.frame.specs.Layout.{Sizes, stored, fileLength, clearLength}
 use Rattle.frame.specs.Frame.{Head, HeadFits, Codec, keySize}
-use Rattle.frame.specs.Single.{ChunkFits, fileLengthOf, clearLengthOf, writeHeaderRows, writeHeader, openHeaderRows, openHeader, writeChunkRows, writeChunk, openChunkRows, openChunk}
+use Rattle.frame.specs.Single.{ChunkFits, fileLengthOf, clearLengthOf, writeHeader, openHeader, writeChunk, openChunk}
+use Rattle.frame.specs.Rules.{fileLengthRules, clearLengthRules, writeHeaderRules, openHeaderRules, writeChunkRules, openChunkRules}
 
--- The calls on lengths answer exactly within the limit, and at the lengths that a file can have.
+-- The calls on lengths go by their rules, exactly.
 abbrev pub LengthsExactly : Sizes → Type 0
 LengthsExactly z =
-    ((n : ℕ) → n ≤ limit → fileLengthOf z n ≡ done (fileLength z n ∷ []))
-    × ((n : ℕ) → limit < n → fileLengthOf z n ≡ refused 4)
-    × ((l : ℕ) → rightLength z l ≡ true → clearLengthOf z l ≡ done (clearLength z l ∷ []))
-    × ((l : ℕ) → rightLength z l ≡ false → clearLengthOf z l ≡ refused 4)
+    ((n : ℕ) → AnswersBy (fileLengthRules n) (fileLength z n ∷ []) (fileLengthOf z n))
+    × ((l : ℕ) → AnswersBy (clearLengthRules z l) (clearLength z l ∷ []) (clearLengthOf z l))
+
+-- Their numbers ascend.
+abbrev pub LengthsAscend : Sizes → Type 0
+LengthsAscend z = ((n : ℕ) → Ascending (fileLengthRules n)) × ((l : ℕ) → Ascending (clearLengthRules z l))
 
 -- The two calls on lengths are each other's inverse: one gives l for n exactly when the other gives n for l.
 abbrev pub LengthsInverse : Sizes → Type 0
@@ -27,15 +29,23 @@ LengthsInverse z = (n l : ℕ) → (fileLengthOf z n ≡ done (l ∷ [])) ↔ (c
 module _ (C : Codec) where
   open Codec C using (sizes as z, headerOf, chunkOf, headOf, plain)
 
-  -- Each row is given exactly where it applies and none before it does, and leaves the buffer as it was.
-  abbrev pub SingleRowsExactly : Type 0
-  SingleRowsExactly =
-      ((h : Head) (out : List ℕ) → EndsExactly (writeHeaderRows C h (length out)) (z .header ∷ []) (filled (headerOf h) (z .header) out) out (writeHeader C h out))
-      × ((b out : List ℕ) → EndsExactly (openHeaderRows C b (length out)) (keySize ∷ []) (filled (headOf b .key) keySize out) out (openHeader C b out))
+  -- The calls on a header or a chunk go by their rules, exactly; a success leaves what is written or opened at the front of the buffer.
+  abbrev pub SingleRowsExactly : Type 0 → Type 0
+  SingleRowsExactly Keys =
+      ((h : Head) (out : List ℕ) → EndsBy (writeHeaderRules C Keys h (length out)) (z .header ∷ []) (filled (headerOf h) (z .header) out) out (writeHeader C h out))
+      × ((b out : List ℕ) → EndsBy (openHeaderRules C Keys b (length out)) (keySize ∷ []) (filled (headOf b .key) keySize out) out (openHeader C b out))
       × ((h : Head) (i : ℕ) (n p out : List ℕ)
-      → EndsExactly (writeChunkRows C h n p (length out)) ((length p + z .overhead) ∷ []) (filled (chunkOf h i n p) (length p + z .overhead) out) out (writeChunk C h i n p out))
+      → EndsBy (writeChunkRules C h n p (length out)) ((length p + z .overhead) ∷ []) (filled (chunkOf h i n p) (length p + z .overhead) out) out (writeChunk C h i n p out))
       × ((h : Head) (i : ℕ) (c out : List ℕ)
-      → EndsExactly (openChunkRows C h i c (length out)) ((length c - z .overhead) ∷ []) (filled (plain h i c) (length c - z .overhead) out) out (openChunk C h i c out))
+      → EndsBy (openChunkRules C h i c (length out)) ((length c - z .overhead) ∷ []) (filled (plain h i c) (length c - z .overhead) out) out (openChunk C h i c out))
+
+  -- The numbers of the rules ascend, so that with `SingleRowsExactly` the lowest of the rows that apply is given.
+  abbrev pub SingleAscend : Type 0 → Type 0
+  SingleAscend Keys =
+      ((h : Head) (room : ℕ) → Ascending (writeHeaderRules C Keys h room))
+      × ((b : List ℕ) (room : ℕ) → Ascending (openHeaderRules C Keys b room))
+      × ((h : Head) (n p : List ℕ) (room : ℕ) → Ascending (writeChunkRules C h n p room))
+      × ((h : Head) (i : ℕ) (c : List ℕ) (room : ℕ) → Ascending (openChunkRules C h i c room))
 
   -- The header that is written for byte strings is a byte string, and so is the chunk.
   abbrev pub SingleBytes : Type 0
@@ -43,10 +53,15 @@ module _ (C : Codec) where
       ((h : Head) → HeadFits z h → Bytes (headerOf h))
       × ((h : Head) (i : ℕ) (n p : List ℕ) → HeadFits z h → Bytes n → Bytes p → Bytes (chunkOf h i n p))
 
-  -- Where no row applies the header writer writes the header, which opens to the content key that went in.
+  -- The header writer succeeds exactly when the keys and the nonce have their sizes and there is room.
+  abbrev pub HeaderWritesExactly : Type 0 → Type 0
+  HeaderWritesExactly Keys =
+      (h : Head) (out : List ℕ) → Bytes (h .nonce) → Bytes (h .key) → Succeeded (writeHeader C h out) ↔ (Keys × HeadFits z h × (z .header ≤ length out))
+
+  -- And then, under keys that have their sizes, it writes the header, which opens to the content key that went in.
   abbrev pub HeaderWrittenOpens : Type 0
   HeaderWrittenOpens =
-      (h : Head) (out into : List ℕ) → Bytes (h .nonce) → Bytes (h .key) → NoRow (writeHeaderRows C h (length out)) → keySize ≤ length into
+      (h : Head) (out into : List ℕ) → HeadFits z h → z .header ≤ length out → keySize ≤ length into
       → (writeHeader C h out ≡ ended (done (length (headerOf h) ∷ [])) (filled (headerOf h) (length (headerOf h)) out))
       × (openHeader C (headerOf h) into ≡ ended (done (keySize ∷ [])) (filled (h .key) keySize into))
 
@@ -57,11 +72,16 @@ module _ (C : Codec) where
       → (Succeeded (openHeader C b out) ↔ ((h : Head) × HeadFits z h × (headerOf h ≡ b)))
       × ((h : Head) → HeadFits z h → headerOf h ≡ b → openHeader C b out ≡ ended (done (keySize ∷ [])) (filled (h .key) keySize out))
 
-  -- Where no row applies the chunk writer writes the chunk, which opens under its number to the cleartext that went in.
+  -- The chunk writer succeeds exactly when the content key, the nonces and the cleartext have their sizes and there is room.
+  abbrev pub ChunkWritesExactly : Type 0
+  ChunkWritesExactly =
+      (h : Head) (i : ℕ) (n p out : List ℕ) → Bytes (h .nonce) → Bytes (h .key) → Bytes n → Bytes p
+      → Succeeded (writeChunk C h i n p out) ↔ (HeadFits z h × ChunkFits z n p × (length p + z .overhead ≤ length out))
+
+  -- And then it writes the chunk, which opens under its number to the cleartext that went in.
   abbrev pub ChunkWrittenOpens : Type 0
   ChunkWrittenOpens =
-      (h : Head) (i : ℕ) (n p out into : List ℕ) → Bytes (h .nonce) → Bytes (h .key) → Bytes n → Bytes p
-      → NoRow (writeChunkRows C h n p (length out)) → length p ≤ length into
+      (h : Head) (i : ℕ) (n p out into : List ℕ) → HeadFits z h → ChunkFits z n p → length p + z .overhead ≤ length out → length p ≤ length into
       → (writeChunk C h i n p out ≡ ended (done (length (chunkOf h i n p) ∷ [])) (filled (chunkOf h i n p) (length (chunkOf h i n p)) out))
       × (openChunk C h i (chunkOf h i n p) into ≡ ended (done (length p ∷ [])) (filled p (length p) into))
 

@@ -17,6 +17,7 @@ use Rattle.octets.proofs.Equality.{and-true, true-and, same-self, same-eq}
 use Rattle.frame.specs.Frame.{Head, HeadFits, keySize}
 use Rattle.frame.specs.Laws.{ChunkLaws, Laws}
 use Rattle.siv_gcm.specs.SivGcm.{sivGcm, sealed, opens, opened, reserved, chunkData, headerOf, headOf, headerGood, masterKeysRight, codec}
+use Rattle.siv_gcm.proofs.KeySizes.{keys-exactly}
 use Rattle.siv_gcm.proofs.Sealed.{was-sealed, length-sealed, nonce-sealed, opens-sealed, opened-sealed, bytes-sealed, length-opened, bytes-opened}
 
 pub chunk-laws : (enc mac : List ℕ) → ChunkLaws (codec enc mac)
@@ -87,10 +88,9 @@ module _ (enc mac : List ℕ) (size : length enc ≡ keySize) (size′ : length 
   header-octets h ok = bytes-sealed enc [] (h .nonce) (reserved ++ h .key) bytes (ok .nonce-bytes) (below-append bytes-reserved (ok .key-bytes))
 
   pub laws : Laws (codec enc mac)
-  unfolding masterKeysRight
   laws =
       record {
-        keys-right = true-and (eqb (length enc) keySize) (eqb (length mac) keySize) (eq-eqb (length enc) keySize size) (eq-eqb (length mac) keySize size′);
+        keys-right = keys-exactly enc mac .1 (size, size′);
         header-size = header-length;
         header-bytes = header-octets;
         header-good = written-good;

@@ -3,17 +3,20 @@
 use Prim.Native.Nat.{ℕ}
 use mathlib.Core.Path.{_≡_}
 use mathlib.Core.Bool.{true}
+use mathlib.Core.Logic.{_↔_}
 use mathlib.Core.List.{List}
-use borrow.Author.Tests.{eqb-true}
-use lib.Dec.{eqb}
 use lib.ListN.{length}
-use Rattle.octets.proofs.Equality.{and-true}
-use Rattle.frame.specs.Frame.{headRight}
-use Rattle.siv_gcm.specs.SivGcm.{sivGcm, headWith, masterKeysRight}
+use Rattle.octets.proofs.Tests.{eqb-exactly, both-exactly}
+use Rattle.frame.specs.Frame.{keySize, headRight}
+use Rattle.frame.proofs.Rules as rules
+use Rattle.siv_gcm.specs.SivGcm.{sivGcm, headWith, masterKeysRight, KeySizes}
 
-pub master-sizes : (enc mac : List ℕ) → masterKeysRight enc mac ≡ true → (length enc ≡ 32) × (length mac ≡ 32)
+pub keys-exactly : (enc mac : List ℕ) → (masterKeysRight enc mac ≡ true) ↔ KeySizes enc mac
 unfolding masterKeysRight
-master-sizes enc mac e = let p = and-true (eqb (length enc) 32) (eqb (length mac) 32) e in (eqb-true _ _ (p .0), eqb-true _ _ (p .1))
+keys-exactly enc mac = both-exactly (eqb-exactly (length enc) keySize) (eqb-exactly (length mac) keySize)
+
+pub master-sizes : (enc mac : List ℕ) → masterKeysRight enc mac ≡ true → KeySizes enc mac
+master-sizes enc mac = keys-exactly enc mac .0
 
 pub head-sizes : (n k : List ℕ) → headRight sivGcm (headWith n k) ≡ true → (length n ≡ 12) × (length k ≡ 32)
-head-sizes n k e = let p = and-true (eqb (length n) 12) (eqb (length k) 32) e in (eqb-true _ _ (p .0), eqb-true _ _ (p .1))
+head-sizes n k = rules.head-sizes sivGcm (headWith n k) .0

@@ -14,7 +14,7 @@ use Rattle.octets.specs.Rows.{done, refusedAt, ended}
 use Rattle.aes_spec.specs.Cipher.{aes}
 use Rattle.frame.specs.Frame.{headRight}
 use Rattle.frame.specs.Single.{openChunkRows}
-use Rattle.frame.proofs.Single.{single-rows-exactly}
+use Rattle.frame.proofs.Single.{single-ends}
 use Rattle.siv_gcm.specs.SivGcm.{sivGcm, headWith, opened, codec}
 use Rattle.siv_gcm.proofs.KeySizes.{head-sizes}
 use Rattle.content.proofs.Calls.{within-sizes, front-filled, front-kept}
@@ -50,7 +50,7 @@ returns c enc mac =
     let x = c .before .before .before .before .before .before .args in
     let h = headWith (x .«header-nonce» .now) (x .key .now) in
     let k = sym (c .before .head-right .ensures) ∙ not-true _ (c .if1 .taken) in
-    sym (single-rows-exactly (codec enc mac) .3 h (x .number) (x .chunk .now) (x .out .now) .0 0 (lit≤ tt) .1 (ap not k))
+    sym (single-ends (codec enc mac) .3 h (x .number) (x .chunk .now) (x .out .now) .0 0 (lit≤ tt) .1 (ap not k))
 
 within-requires : tie.Need-within-requires
 within-requires c κs = search needs
@@ -61,7 +61,7 @@ returns-2 c enc mac =
     let x = c .before .before .before .before .before .before .before .before .args in
     let h = headWith (x .«header-nonce» .now) (x .key .now) in
     let w = sym (c .before .within .ensures) ∙ not-true _ (c .if2 .taken) in
-    sym (single-rows-exactly (codec enc mac) .3 h (x .number) (x .chunk .now) (x .out .now) .0 1 (lit≤ tt) .1 (ap not (head (c .before .before)), ap not w))
+    sym (single-ends (codec enc mac) .3 h (x .number) (x .chunk .now) (x .out .now) .0 1 (lit≤ tt) .1 (ap not (head (c .before .before)), ap not w))
 
 sub-n : tie.Need-sub-n
 sub-n c = omega (arith, bounds c .0)
@@ -72,7 +72,7 @@ returns-3 c enc mac =
     let x = c .before .before .before .before .before .before .before .before .before .args in
     let h = headWith (x .«header-nonce» .now) (x .key .now) in
     sym
-    (single-rows-exactly (codec enc mac) .3 h (x .number) (x .chunk .now) (x .out .now) .0 2 (lit≤ tt) .1
+    (single-ends (codec enc mac) .3 h (x .number) (x .chunk .now) (x .out .now) .0 2 (lit≤ tt) .1
     (ap not (head (c .before .before .before)), (ap not (sized (c .before)), lt-ltb _ _ (c .if3 .taken))))
 
 slice-relend-prefix-open-under : tie.Need-slice-relend-prefix-open-under
@@ -105,7 +105,7 @@ returns-4 c enc mac =
     let e = o .ensures .1 ∙ ap (λ (b : Bool). cond b (opened (aes 8 (x .key .now)) (x .chunk .now)) (take n d)) r in
     ap (ended (refusedAt 10 (x .number))) (front-kept (o .last .1 .1 .1 .1 .0) d n e)
     ∙ sym
-    (single-rows-exactly (codec enc mac) .3 h (x .number) (x .chunk .now) d .0 3 (lit≤ tt) .1
+    (single-ends (codec enc mac) .3 h (x .number) (x .chunk .now) d .0 3 (lit≤ tt) .1
     (ap not (head (k .before .before .before)), (ap not (sized (k .before)), (le-ltb _ _ (k .if3 .left), ap not (sym (o .ensures .0) ∙ r)))))
 
 same-length-2 : tie.Need-same-length-2
@@ -125,7 +125,7 @@ returns-5 c enc mac =
     let e = o .ensures .1 ∙ ap (λ (b : Bool). cond b s (take n d)) r in
     ap (ended (done (n ∷ []))) (front-filled (o .last .1 .1 .1 .1 .0) d n s (o .kept .1 .1 .1 .1 .0) e)
     ∙ sym
-    (single-rows-exactly (codec enc mac) .3 h (x .number) (x .chunk .now) d .1 .1
+    (single-ends (codec enc mac) .3 h (x .number) (x .chunk .now) d .1 .1
     (ap not (head (k .before .before .before)), (ap not (sized (k .before)), (le-ltb _ _ (k .if3 .left), (ap not (sym (o .ensures .0) ∙ r), tt)))))
 
 pub open-chunk-spec : {M : Type 1} → statement M

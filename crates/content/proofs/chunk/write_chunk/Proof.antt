@@ -14,7 +14,7 @@ use Rattle.octets.specs.Rows.{done, ended}
 use Rattle.aes_spec.specs.Cipher.{aes}
 use Rattle.frame.specs.Frame.{headRight}
 use Rattle.frame.specs.Single.{writeChunkRows}
-use Rattle.frame.proofs.Single.{single-rows-exactly}
+use Rattle.frame.proofs.Single.{single-ends}
 use Rattle.siv_gcm.specs.SivGcm.{sivGcm, headWith, sealed, chunkData, codec}
 use Rattle.siv_gcm.proofs.KeySizes.{head-sizes}
 use Rattle.content.proofs.Calls.{within-sizes, front-filled}
@@ -52,7 +52,7 @@ returns c enc mac =
     let h = headWith (x .«header-nonce» .now) (x .key .now) in
     let k = sym (c .before .head-right .ensures) ∙ not-true _ (c .if1 .taken) in
     sym
-    (single-rows-exactly (codec enc mac) .2 h (x .number) (x .nonce .now) (x .cleartext .now) (x .out .now) .0 0 (lit≤ tt) .1
+    (single-ends (codec enc mac) .2 h (x .number) (x .nonce .now) (x .cleartext .now) (x .out .now) .0 0 (lit≤ tt) .1
     (ap (λ (b : Bool). not (b && eqb (length (x .nonce .now)) 12)) k))
 
 returns-2 : tie.Need-returns-2
@@ -61,7 +61,7 @@ returns-2 c enc mac =
     let x = c .before .before .before .before .before .before .before .before .args in
     let h = headWith (x .«header-nonce» .now) (x .key .now) in
     sym
-    (single-rows-exactly (codec enc mac) .2 h (x .number) (x .nonce .now) (x .cleartext .now) (x .out .now) .0 0 (lit≤ tt) .1
+    (single-ends (codec enc mac) .2 h (x .number) (x .nonce .now) (x .cleartext .now) (x .out .now) .0 0 (lit≤ tt) .1
     (ap₂ (λ (a b : Bool). not (a && b)) (head (c .before)) (ne-eqb _ _ (c .if2 .taken))))
 
 within-requires : tie.Need-within-requires
@@ -73,7 +73,7 @@ returns-3 c enc mac =
     let x = c .before .before .before .before .before .before .before .before .before .before .args in
     let h = headWith (x .«header-nonce» .now) (x .key .now) in
     let w = sym (c .before .within .ensures) ∙ not-true _ (c .if3 .taken) in
-    sym (single-rows-exactly (codec enc mac) .2 h (x .number) (x .nonce .now) (x .cleartext .now) (x .out .now) .0 1 (lit≤ tt) .1 (sized (c .before .before), ap not w))
+    sym (single-ends (codec enc mac) .2 h (x .number) (x .nonce .now) (x .cleartext .now) (x .out .now) .0 1 (lit≤ tt) .1 (sized (c .before .before), ap not w))
 
 add-n : tie.Need-add-n
 add-n c = search needs
@@ -84,7 +84,7 @@ returns-4 c enc mac =
     let x = c .before .before .before .before .before .before .before .before .before .before .before .args in
     let h = headWith (x .«header-nonce» .now) (x .key .now) in
     sym
-    (single-rows-exactly (codec enc mac) .2 h (x .number) (x .nonce .now) (x .cleartext .now) (x .out .now) .0 2 (lit≤ tt) .1
+    (single-ends (codec enc mac) .2 h (x .number) (x .nonce .now) (x .cleartext .now) (x .out .now) .0 2 (lit≤ tt) .1
     (sized (c .before .before .before), (ap not (clear (c .before)), lt-ltb _ _ (c .if4 .taken))))
 
 slice-relend-prefix-seal-under : tie.Need-slice-relend-prefix-seal-under
@@ -115,7 +115,7 @@ returns-5 c enc mac =
     let b = sealed (aes 8 (x .key .now)) (chunkData (x .«header-nonce» .now) (x .number)) (x .nonce .now) (x .cleartext .now) in
     ap (ended (done (n ∷ []))) (front-filled (s .last .1 .1 .1 .1 .1 .0) (x .out .now) n b (s .kept .1 .1 .1 .1 .1 .0) (s .ensures))
     ∙ sym
-    (single-rows-exactly (codec enc mac) .2 h (x .number) (x .nonce .now) (x .cleartext .now) (x .out .now) .1 .1
+    (single-ends (codec enc mac) .2 h (x .number) (x .nonce .now) (x .cleartext .now) (x .out .now) .1 .1
     (sized (k .before .before .before), (ap not (clear (k .before)), (le-ltb _ _ (k .if4 .left), tt))))
 
 pub write-chunk-spec : {M : Type 1} → statement M

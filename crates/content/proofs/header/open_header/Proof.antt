@@ -12,7 +12,7 @@ use lib.ListN.{length, take}
 use lib.Seq.{length-take-le}
 use Rattle.octets.specs.Rows.{done, refused, ended}
 use Rattle.frame.specs.Single.{openHeaderRows}
-use Rattle.frame.proofs.Single.{single-rows-exactly}
+use Rattle.frame.proofs.Single.{single-ends}
 use Rattle.siv_gcm.specs.SivGcm.{headOf, masterKeysRight, codec}
 use Rattle.siv_gcm.proofs.KeySizes.{master-sizes}
 use Rattle.content.proofs.Calls.{front-filled, front-kept}
@@ -35,20 +35,20 @@ unfolding openHeaderRows
 returns c =
     let x = c .before .before .before .before .before .before .args in
     let k = sym (c .before .master-keys-right .ensures) ∙ not-true _ (c .if1 .taken) in
-    sym (single-rows-exactly (codec (x .enc .now) (x .mac .now)) .1 (x .header .now) (x .out .now) .0 0 (lit≤ tt) .1 (ap not k))
+    sym (single-ends (codec (x .enc .now) (x .mac .now)) .1 (x .header .now) (x .out .now) .0 0 (lit≤ tt) .1 (ap not k))
 
 returns-2 : tie.Need-returns-2
 unfolding openHeaderRows
 returns-2 c =
     let x = c .before .before .before .before .before .before .before .args in
-    sym (single-rows-exactly (codec (x .enc .now) (x .mac .now)) .1 (x .header .now) (x .out .now) .0 1 (lit≤ tt) .1 (ap not (keys (c .before)), ap not (ne-eqb _ _ (c .if2 .taken))))
+    sym (single-ends (codec (x .enc .now) (x .mac .now)) .1 (x .header .now) (x .out .now) .0 1 (lit≤ tt) .1 (ap not (keys (c .before)), ap not (ne-eqb _ _ (c .if2 .taken))))
 
 returns-3 : tie.Need-returns-3
 unfolding openHeaderRows
 returns-3 c =
     let x = c .before .before .before .before .before .before .before .before .args in
     sym
-    (single-rows-exactly (codec (x .enc .now) (x .mac .now)) .1 (x .header .now) (x .out .now) .0 2 (lit≤ tt) .1
+    (single-ends (codec (x .enc .now) (x .mac .now)) .1 (x .header .now) (x .out .now) .0 2 (lit≤ tt) .1
     (ap not (keys (c .before .before)), (ap not (eq-eqb _ _ (c .before .if2 .left)), lt-ltb _ _ (c .if3 .taken))))
 
 table-requires : tie.Need-table-requires
@@ -81,7 +81,7 @@ returns-4 c =
     let e = o .ensures .1 ∙ ap (λ (b : Bool). cond b (headOf (x .enc .now) (x .header .now) .key) (take 32 d)) r in
     ap (ended (refused 9)) (front-kept (o .last .1 .1 .1 .0) d 32 e)
     ∙ sym
-    (single-rows-exactly (codec (x .enc .now) (x .mac .now)) .1 (x .header .now) d .0 3 (lit≤ tt) .1
+    (single-ends (codec (x .enc .now) (x .mac .now)) .1 (x .header .now) d .0 3 (lit≤ tt) .1
     (ap not (keys (k .before .before)), (ap not (eq-eqb _ _ (k .before .if2 .left)), (le-ltb _ _ (k .if3 .left), ap not (sym (o .ensures .0) ∙ r)))))
 
 same-length-2 : tie.Need-same-length-2
@@ -99,7 +99,7 @@ returns-5 c =
     let e = o .ensures .1 ∙ ap (λ (b : Bool). cond b s (take 32 d)) r in
     ap (ended (done (32 ∷ []))) (front-filled (o .last .1 .1 .1 .0) d 32 s (o .kept .1 .1 .1 .0) e)
     ∙ sym
-    (single-rows-exactly (codec (x .enc .now) (x .mac .now)) .1 (x .header .now) d .1 .1
+    (single-ends (codec (x .enc .now) (x .mac .now)) .1 (x .header .now) d .1 .1
     (ap not (keys (k .before .before)), (ap not (eq-eqb _ _ (k .before .if2 .left)), (le-ltb _ _ (k .if3 .left), (ap not (sym (o .ensures .0) ∙ r), tt)))))
 
 pub open-header-spec : {M : Type 1} → statement M

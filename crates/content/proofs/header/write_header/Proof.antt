@@ -13,7 +13,7 @@ use lib.Seq.{length-take-le}
 use Rattle.octets.specs.Rows.{done, ended}
 use Rattle.frame.specs.Frame.{headRight}
 use Rattle.frame.specs.Single.{writeHeaderRows}
-use Rattle.frame.proofs.Single.{single-rows-exactly}
+use Rattle.frame.proofs.Single.{single-ends}
 use Rattle.siv_gcm.specs.SivGcm.{sivGcm, headWith, headerOf, masterKeysRight, codec}
 use Rattle.siv_gcm.proofs.KeySizes.{master-sizes, head-sizes}
 use Rattle.content.proofs.Calls.{front-filled}
@@ -42,7 +42,7 @@ returns c =
     let x = c .before .before .before .before .before .before .before .args in
     let h = headWith (x .nonce .now) (x .key .now) in
     let k = sym (c .before .master-keys-right .ensures) ∙ not-true _ (c .if1 .taken) in
-    sym (single-rows-exactly (codec (x .enc .now) (x .mac .now)) .0 h (x .out .now) .0 0 (lit≤ tt) .1 (ap (λ (b : Bool). not (b && headRight sivGcm h)) k))
+    sym (single-ends (codec (x .enc .now) (x .mac .now)) .0 h (x .out .now) .0 0 (lit≤ tt) .1 (ap (λ (b : Bool). not (b && headRight sivGcm h)) k))
 
 head-right-requires : tie.Need-head-right-requires
 head-right-requires c κs = search needs
@@ -53,7 +53,7 @@ returns-2 c =
     let x = c .before .before .before .before .before .before .before .before .before .args in
     let h = headWith (x .nonce .now) (x .key .now) in
     let n = sym (c .before .head-right .ensures) ∙ not-true _ (c .if2 .taken) in
-    sym (single-rows-exactly (codec (x .enc .now) (x .mac .now)) .0 h (x .out .now) .0 0 (lit≤ tt) .1 (ap₂ (λ (a b : Bool). not (a && b)) (keys (c .before .before)) n))
+    sym (single-ends (codec (x .enc .now) (x .mac .now)) .0 h (x .out .now) .0 0 (lit≤ tt) .1 (ap₂ (λ (a b : Bool). not (a && b)) (keys (c .before .before)) n))
 
 returns-3 : tie.Need-returns-3
 unfolding writeHeaderRows
@@ -61,7 +61,7 @@ returns-3 c =
     let x = c .before .before .before .before .before .before .before .before .before .before .args in
     let h = headWith (x .nonce .now) (x .key .now) in
     let k = ap₂ (λ (a b : Bool). not (a && b)) (keys (c .before .before .before)) (head (c .before)) in
-    sym (single-rows-exactly (codec (x .enc .now) (x .mac .now)) .0 h (x .out .now) .0 1 (lit≤ tt) .1 (k, lt-ltb _ _ (c .if3 .taken)))
+    sym (single-ends (codec (x .enc .now) (x .mac .now)) .0 h (x .out .now) .0 1 (lit≤ tt) .1 (k, lt-ltb _ _ (c .if3 .taken)))
 
 table-requires : tie.Need-table-requires
 table-requires c κs = search needs
@@ -92,7 +92,7 @@ returns-4 c =
     let h = headWith (x .nonce .now) (x .key .now) in
     let r = ap₂ (λ (a b : Bool). not (a && b)) (keys (k .before .before .before)) (head (k .before)) in
     ap (ended (done (68 ∷ []))) (front-filled (s .last .1 .1 .1 .1 .0) (x .out .now) 68 (headerOf (x .enc .now) h) (s .kept .1 .1 .1 .1 .0) (s .ensures))
-    ∙ sym (single-rows-exactly (codec (x .enc .now) (x .mac .now)) .0 h (x .out .now) .1 .1 (r, (le-ltb _ _ (k .if3 .left), tt)))
+    ∙ sym (single-ends (codec (x .enc .now) (x .mac .now)) .0 h (x .out .now) .1 .1 (r, (le-ltb _ _ (k .if3 .left), tt)))
 
 pub write-header-spec : {M : Type 1} → statement M
 write-header-spec =
