@@ -1,20 +1,27 @@
--- The end of each call goes by its rows.
+-- The end of each call by its rows, and of the name writer by rules.
 -- Assumes nothing.
 use Prim.Native.Nat.{ℕ, _≤_, _<_}
 use mathlib.Core.Path.{_≡_, refl, ap, ap₂}
 use mathlib.Core.Bool.{true, cond}
+use mathlib.Core.Logic.{_↔_}
 use mathlib.Core.List.{List, [], _∷_}
 use lib.ListN.{length}
 use borrow.Author.Tests.{le-leb, lt-leb}
 use Rattle.octets.specs.Bytes.{filled}
-use Rattle.octets.specs.Rows.{Outcome, done, Row, answer, numbered, End, ended, ending}
-use Rattle.octets.proofs.Rows.{ends-exactly}
+use Rattle.octets.specs.Rows.{Outcome, done, Row, answer, First, NoRow, outcomeAt, numbered, End, ended, ending, EndsExactly, Rule, Exactly}
+use Rattle.octets.proofs.Rows.{ends-exactly, Matches, ends-by}
 use Rattle.name_spec.specs.Names.{threshold, path, fullName, fullLength, hashName, short, storedName, nameLength, nameOf}
 use Rattle.name_spec.specs.Calls.{pathLength, hashLength, storedLength, writtenLengths, NameEnd, nameEnded, nameEnding, dirPathRows, dirPath, writeNameRows, writeName, openNameRows, openName, openLongNameRows, openLongName}
-use Rattle.name_spec.specs.Statements.{NameEndsExactly, NameRowsExactly}
+use Rattle.name_spec.specs.Statements.{NameEndsBy}
 use Rattle.name_spec.proofs.Texts.{length-full}
 
 -- ---- two buffers
+
+-- For code: the end by the rows, as `EndsExactly` has it of one buffer.
+abbrev pub NameEndsExactly : List Row → List ℕ → List ℕ → List ℕ → List ℕ → List ℕ → NameEnd → Type 0
+NameEndsExactly rows l newStored newFull stored full e =
+    ((k : ℕ) → k < length rows → (e ≡ nameEnded (outcomeAt rows (done l) k) stored full) ↔ First rows k)
+    × ((e ≡ nameEnded (done l) newStored newFull) ↔ NoRow rows)
 
 -- Two buffers end as each of them does.
 module _ (rows : List Row) (n : numbered rows ≡ true) (l newStored newFull stored full : List ℕ) where
@@ -33,11 +40,33 @@ module _ (rows : List Row) (n : numbered rows ≡ true) (l newStored newFull sto
         (λ e. a .1 .0 (first-buffer e), λ f. both-buffers (a .1 .1 f) (b .1 .1 f)),
       )
 
+  -- So they go by the rules that the rows match.
+  pub name-ends-by : (rules : List Rule) → Matches rows rules → NameEndsBy rules l newStored newFull stored full (nameEnding (answer rows (done l)) newStored newFull stored full)
+  name-ends-by rules m = go rules (Unit {0}) (ends-by rows rules m n l newStored stored) (ends-by rows rules m n l newFull full)
+    where
+      go : (rules : List Rule) (met : Type 0)
+          → Exactly (λ o. ending (answer rows (done l)) newStored stored ≡ ended o stored) (ending (answer rows (done l)) newStored stored ≡ ended (done l) newStored) met rules
+          → Exactly (λ o. ending (answer rows (done l)) newFull full ≡ ended o full) (ending (answer rows (done l)) newFull full ≡ ended (done l) newFull) met rules
+          → Exactly (λ o. nameEnding (answer rows (done l)) newStored newFull stored full ≡ nameEnded o stored full)
+          (nameEnding (answer rows (done l)) newStored newFull stored full ≡ nameEnded (done l) newStored newFull) met rules
+      go [] met a b = (λ e. a .0 (first-buffer e), λ q. both-buffers (a .1 q) (b .1 q))
+      go (r ∷ rules) met a b = ((λ e. a .0 .0 (first-buffer e), λ q. both-buffers (a .0 .1 q) (b .0 .1 q)), go rules (met × r .0) (a .1) (b .1))
+
 -- ---- the four calls
 
-pub name-rows-exactly : (enc mac id : List ℕ) → NameRowsExactly enc mac id
+-- For code: the end of each call by its rows.
+pub name-ends : (enc mac id : List ℕ)
+    → ((out : List ℕ) → EndsExactly (dirPathRows enc mac id (length out)) (pathLength ∷ []) (filled (path enc mac id) pathLength out) out (dirPath enc mac id out))
+    × ((name stored full : List ℕ) →
+    let f = fullName enc mac id name in
+    let n = fullLength (length name) in
+    NameEndsExactly (writeNameRows enc mac id name (length stored) (length full)) (writtenLengths n)
+    (filled (storedName f) (storedLength n) stored) (cond (short n) full (filled f n full)) stored full (writeName enc mac id name stored full))
+    × ((t out : List ℕ) → EndsExactly (openNameRows enc mac id t (length out)) (nameLength t ∷ []) (filled (nameOf enc t) (nameLength t) out) out (openName enc mac id t out))
+    × ((s t out : List ℕ)
+    → EndsExactly (openLongNameRows enc mac id s t (length out)) (nameLength t ∷ []) (filled (nameOf enc t) (nameLength t) out) out (openLongName enc mac id s t out))
 unfolding dirPathRows dirPath writeNameRows writeName openNameRows openName openLongNameRows openLongName
-name-rows-exactly enc mac id = (
+name-ends enc mac id = (
   λ out. ends-exactly (dirPathRows enc mac id (length out)) refl (pathLength ∷ []) (filled (path enc mac id) pathLength out) out,
   λ name stored full.
       let f = fullName enc mac id name in

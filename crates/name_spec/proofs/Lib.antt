@@ -1,5 +1,6 @@
 pub mod Texts
 pub mod Ends
+pub mod Rules
 pub mod Openings
 pub mod Vectors
 pub mod Demands

@@ -23,19 +23,10 @@ use Rattle.encoding.proofs.Laws.{encoded-decodes, decoded-was-encoded, encoded-
 use Rattle.encoding.proofs.Quintets.{base32-length}
 use Rattle.name_spec.specs.Names.{idLimit, nameLimit, ivSize, ascii, idRight, nameRight, fullEnd, hashEnd, sealedId, idHash, path, sealedName, fullName, fullLength, hashName, stem, sealedOf, nameLength, textRight, nameOf, nameGood}
 use Rattle.name_spec.specs.Calls.{pathLength, hashLength}
+use Rattle.name_spec.specs.Rules.{TextForm}
 use Rattle.name_spec.specs.Statements.{TextLengths, NameFits}
 
 -- ---- lengths
-
-pub id-size : (id : List ℕ) → idRight id ≡ true → length id ≤ idLimit
-unfolding idRight
-id-size id e = leb-true (length id) idLimit (and-true (leb (length id) idLimit) (ascii id) e .0)
-
-pub name-sizes : (name : List ℕ) → nameRight name ≡ true → (1 ≤ length name) × (length name ≤ nameLimit)
-unfolding nameRight
-name-sizes name e =
-    let p = and-true (leb 1 (length name)) (leb (length name) nameLimit) e in
-    (leb-true 1 (length name) (p .0), leb-true (length name) nameLimit (p .1))
 
 pub length-name : (enc t : List ℕ) → length (nameOf enc t) ≡ nameLength t
 unfolding nameOf nameLength
@@ -67,9 +58,6 @@ module _ (enc mac id : List ℕ) where
         let s = sealedName enc mac id name in
         length-append (base64url.encode true s) fullEnd
         ∙ ap (λ (n : ℕ). n + length fullEnd) (encoded-length true s ∙ ap (base64url.encodedLength true) length-sealed)
-
-pub text-lengths : TextLengths
-text-lengths enc mac id name full = (length-path enc mac id, length-hash full, length-full enc mac id name)
 
 -- ---- the text form of a full name
 
@@ -114,43 +102,48 @@ unfolding textRight
 text-right t f =
     rw (f .ends, same-self fullEnd, f .accepted, le-leb (1 + ivSize) (length (sealedOf t)) (f .low), le-leb (length (sealedOf t)) (nameLimit + ivSize) (f .high))
 
+-- The text of a byte string has the text form exactly where the string has one of the sizes.
+module _ (s : List ℕ) (bytes : Bytes s) where
+  pub sealed-of-text : sealedOf (base64url.encode true s ++ fullEnd) ≡ s
+  unfolding sealedOf
+  sealed-of-text = ap (base64url.decoded true) (stem-of (base64url.encode true s)) ∙ encoded-decodes true s bytes .1
+
+  pub text-of : 17 ≤ length s → length s ≤ 271 → textRight (base64url.encode true s ++ fullEnd) ≡ true
+  text-of low high =
+      let l = ap length sealed-of-text in
+      text-right (base64url.encode true s ++ fullEnd)
+      (record {
+        ends = end-of (base64url.encode true s);
+        accepted = ap (base64url.accepted true) (stem-of (base64url.encode true s)) ∙ encoded-decodes true s bytes .0;
+        low = omega (arith, l, low);
+        high = omega (arith, l, high);
+      })
+
+  text-length : nameLength (base64url.encode true s ++ fullEnd) ≡ length s - 16
+  unfolding nameLength
+  text-length = ap (λ (x : List ℕ). length x - 16) sealed-of-text
+
+pub text-lengths : TextLengths
+text-lengths = (λ enc mac id name full. (length-path enc mac id, length-hash full, length-full enc mac id name), text-length)
+
 module _ (enc mac id name : List ℕ) (be : Bytes enc) (bm : Bytes mac) (fits : NameFits name) where
   sealed-bytes : Bytes (sealedName enc mac id name)
   unfolding sealedName
   sealed-bytes = keeps-bytes (aes 8 mac) (aes 8 enc) (aes-bytes 8 bm) (aes-bytes 8 be) (id ∷ []) .0 name (fits .bytes)
 
   pub sealed-of-full : sealedOf (fullName enc mac id name) ≡ sealedName enc mac id name
-  unfolding sealedOf fullName
-  sealed-of-full =
-      let s = sealedName enc mac id name in
-      ap (base64url.decoded true) (stem-of (base64url.encode true s)) ∙ encoded-decodes true s sealed-bytes .1
-
-  sealed-length : length (sealedOf (fullName enc mac id name)) ≡ length name + ivSize
-  sealed-length = ap length sealed-of-full ∙ length-sealed enc mac id name
+  unfolding fullName
+  sealed-of-full = sealed-of-text (sealedName enc mac id name) sealed-bytes
 
   pub full-length : nameLength (fullName enc mac id name) ≡ length name
-  unfolding nameLength
-  full-length = omega (arith, sealed-length)
-
-  full-accepted : base64url.accepted true (stem (fullName enc mac id name)) ≡ true
   unfolding fullName
-  full-accepted =
-      let s = sealedName enc mac id name in
-      ap (base64url.accepted true) (stem-of (base64url.encode true s)) ∙ encoded-decodes true s sealed-bytes .0
-
-  full-ends : drop (length (fullName enc mac id name) - length fullEnd) (fullName enc mac id name) ≡ fullEnd
-  unfolding fullName
-  full-ends = end-of (base64url.encode true (sealedName enc mac id name))
+  full-length = omega (arith, text-length (sealedName enc mac id name) sealed-bytes, length-sealed enc mac id name)
 
   pub full-right : textRight (fullName enc mac id name) ≡ true
+  unfolding fullName
   full-right =
-      text-right (fullName enc mac id name)
-      (record {
-        ends = full-ends;
-        accepted = full-accepted;
-        low = omega (arith, sealed-length, fits .some);
-        high = omega (arith, sealed-length, fits .size);
-      })
+      let l = length-sealed enc mac id name in
+      text-of (sealedName enc mac id name) sealed-bytes (omega (arith, l, fits .size .0)) (omega (arith, l, fits .size .1))
 
   pub full-name : nameOf enc (fullName enc mac id name) ≡ name
   unfolding nameOf sealedName
@@ -172,7 +165,7 @@ module _ (enc mac id name : List ℕ) (be : Bytes enc) (bm : Bytes mac) (fits : 
 
 -- ---- a text in that form whose synthetic IV matches
 
-module _ (enc mac id t : List ℕ) (be : Bytes enc) (right : textRight t ≡ true) where
+module _ (t : List ℕ) (right : textRight t ≡ true) where
   facts : TextFacts t
   facts = text-facts t right
 
@@ -184,19 +177,26 @@ module _ (enc mac id t : List ℕ) (be : Bytes enc) (right : textRight t ≡ tru
   unfolding sealedOf
   encoded = sym (decoded-was-encoded true (stem t) (facts .accepted) .0)
 
+  -- It is the text of the bytes that it stands for.
+  text-again : base64url.encode true (sealedOf t) ++ fullEnd ≡ t
+  text-again = ap₂ (λ (x y : List ℕ). x ++ y) encoded (sym (facts .ends)) ∙ take-append-drop (length t - length fullEnd) t
+
+  pub form : TextForm t
+  form = (sealedOf t, sealed-bytes-of, facts .low, facts .high, text-again)
+
+-- And where its synthetic IV matches, it is the full name of the name that it opens to.
+module _ (enc mac id t : List ℕ) (be : Bytes enc) (right : textRight t ≡ true) where
   pub name-fits : NameFits (nameOf enc t)
   unfolding nameOf nameLength
   name-fits =
       let l = length-name enc t in
       record {
-        some = omega (arith, l, facts .low);
-        size = omega (arith, l, facts .high);
-        bytes = keeps-bytes (aes 8 enc) (aes 8 enc) (aes-bytes 8 be) (aes-bytes 8 be) [] .1 (sealedOf t) sealed-bytes-of;
+        size = (omega (arith, l, text-facts t right .low), omega (arith, l, text-facts t right .high));
+        bytes = keeps-bytes (aes 8 enc) (aes 8 enc) (aes-bytes 8 be) (aes-bytes 8 be) [] .1 (sealedOf t) (sealed-bytes-of t right);
       }
 
   pub was-full : nameGood enc mac id t ≡ true → fullName enc mac id (nameOf enc t) ≡ t
   unfolding nameGood nameOf fullName sealedName
   was-full g =
       let back = opened-was-sealed (aes 8 mac) (aes 8 enc) (length-aes 8 mac) (length-aes 8 enc) (id ∷ []) (sealedOf t) g in
-      ap (λ (z : List ℕ). base64url.encode true z ++ fullEnd) (sym back) ∙ ap₂ (λ (x y : List ℕ). x ++ y) encoded (sym (facts .ends))
-      ∙ take-append-drop (length t - length fullEnd) t
+      ap (λ (z : List ℕ). base64url.encode true z ++ fullEnd) (sym back) ∙ text-again t right

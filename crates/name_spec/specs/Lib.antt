@@ -1,3 +1,4 @@
 pub mod Names
 pub mod Calls
+pub mod Rules
 pub mod Statements

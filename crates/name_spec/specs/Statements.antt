@@ -3,69 +3,94 @@
 use mathlib.Core.Path.{_≡_}
 use mathlib.Core.Bool.{true, false, cond}
 use mathlib.Core.Logic.{_↔_}
-use mathlib.Core.List.{List, [], _∷_}
-use Prim.Native.Nat.{ℕ, _≤_, _<_}
+use mathlib.Core.List.{List, [], _∷_, _++_}
+use Prim.Native.Nat.{ℕ, _-_, _≤_, _<_}
 use lib.ListN.{length}
 use Rattle.octets.specs.Bytes.{Bytes, filled, same}
-use Rattle.octets.specs.Rows.{done, refused, Row, First, NoRow, outcomeAt, EndsExactly, ended, Succeeded}
+use Rattle.octets.specs.Rows.{done, refused, Rule, Exactly, EndsBy, Ascending, ended, Succeeded}
 use Rattle.aes_spec.specs.Cipher.{aes}
 use Rattle.siv.specs.Siv.{s2v}
-use Rattle.siv_gcm.specs.SivGcm.{masterKeysRight}
-use Rattle.name_spec.specs.Names.{nameLimit, threshold, idRight, path, fullName, fullLength, hashName, short, storedName, textRight, nameLength, nameOf}
-use Rattle.name_spec.specs.Calls.{pathLength, hashLength, storedLength, writtenLengths, NameEnd, nameEnded, dirPathRows, dirPath, writeNameRows, writeName, openNameRows, openName, openLongNameRows, openLongName}
+use Rattle.encoding.specs.Base64url as base64url
+use Rattle.siv_gcm.specs.SivGcm.{KeySizes}
+use Rattle.name_spec.specs.Names.{fullEnd, path, fullName, fullLength, hashName, short, storedName, nameLength, nameOf}
+use Rattle.name_spec.specs.Calls.{pathLength, hashLength, storedLength, writtenLengths, NameEnd, nameEnded, dirPath, writeName, openName, openLongName}
+use Rattle.name_spec.specs.Rules.{IdFits, NameSize, TextForm, NameRoom, dirPathRules, writeNameRules, openNameRules, openLongNameRules}
 
 -- A name of 1 to 255 bytes.
 pub record NameFits (name : List ℕ) : Type 0 where
-  pub some : 1 ≤ length name
-  pub size : length name ≤ nameLimit
+  pub size : NameSize name
   pub bytes : Bytes name
 
--- Keys and a directory ID that the rows 1 and 2 let pass; the keys are byte strings.
+-- Two master keys of 32 bytes, and a directory ID of at most 36 bytes, each below 128.
 pub record Directory (enc mac id : List ℕ) : Type 0 where
-  pub keys : masterKeysRight enc mac ≡ true
-  pub id-right : idRight id ≡ true
+  pub keys : KeySizes enc mac
+  pub id-fits : IdFits id
   pub enc-bytes : Bytes enc
   pub mac-bytes : Bytes mac
 
--- The end of a call with two buffers goes by its rows, as `EndsExactly` says it of one.
-abbrev pub NameEndsExactly : List Row → List ℕ → List ℕ → List ℕ → List ℕ → List ℕ → NameEnd → Type 0
-NameEndsExactly rows l newStored newFull stored full e =
-    ((k : ℕ) → k < length rows → (e ≡ nameEnded (outcomeAt rows (done l) k) stored full) ↔ First rows k)
-    × ((e ≡ nameEnded (done l) newStored newFull) ↔ NoRow rows)
+-- A call with two buffers goes by rules, as `EndsBy` says it of one.
+abbrev pub NameEndsBy : List Rule → List ℕ → List ℕ → List ℕ → List ℕ → List ℕ → NameEnd → Type 0
+NameEndsBy rules l newStored newFull stored full e =
+    Exactly (λ o. e ≡ nameEnded o stored full) (e ≡ nameEnded (done l) newStored newFull) (Unit {0}) rules
 
--- The path of a directory has 36 characters, a hash name 32, and a full name the number that its name's length fixes. Any keys.
+-- The path of a directory has 36 characters, a hash name 32, and a full name the number that its name's length fixes. Any keys. The room that
+-- a text in the text form asks for is that of the bytes which it stands for, without the 16 of the synthetic IV.
 abbrev pub TextLengths : Type 0
 TextLengths =
-    (enc mac id name full : List ℕ)
-    → (length (path enc mac id) ≡ pathLength)
-    × (length (hashName full) ≡ hashLength)
-    × (length (fullName enc mac id name) ≡ fullLength (length name))
+    ((enc mac id name full : List ℕ)
+    → (length (path enc mac id) ≡ 36)
+    × (length (hashName full) ≡ 32)
+    × (length (fullName enc mac id name) ≡ fullLength (length name)))
+    × ((s : List ℕ) → Bytes s → nameLength (base64url.encode true s ++ fullEnd) ≡ length s - 16)
 
 module _ (enc mac id : List ℕ) where
-  -- Each row is given exactly where it applies and none before it does, and leaves the buffers as they were. Any keys.
+  -- The calls go by their rules, exactly; a success leaves what is written or opened at the front of the buffer, and the full name of a
+  -- shortened name in the second buffer. Any keys.
   abbrev pub NameRowsExactly : Type 0
   NameRowsExactly =
-      ((out : List ℕ) → EndsExactly (dirPathRows enc mac id (length out)) (pathLength ∷ []) (filled (path enc mac id) pathLength out) out (dirPath enc mac id out))
+      ((out : List ℕ) → EndsBy (dirPathRules enc mac id (length out)) (pathLength ∷ []) (filled (path enc mac id) pathLength out) out (dirPath enc mac id out))
       × ((name stored full : List ℕ) →
       let f = fullName enc mac id name in
       let n = fullLength (length name) in
-      NameEndsExactly (writeNameRows enc mac id name (length stored) (length full)) (writtenLengths n)
+      NameEndsBy (writeNameRules enc mac id name (length stored) (length full)) (writtenLengths n)
       (filled (storedName f) (storedLength n) stored) (cond (short n) full (filled f n full)) stored full (writeName enc mac id name stored full))
-      × ((t out : List ℕ) → EndsExactly (openNameRows enc mac id t (length out)) (nameLength t ∷ []) (filled (nameOf enc t) (nameLength t) out) out (openName enc mac id t out))
+      × ((t out : List ℕ) → EndsBy (openNameRules enc mac id t (length out)) (nameLength t ∷ []) (filled (nameOf enc t) (nameLength t) out) out (openName enc mac id t out))
       × ((s t out : List ℕ)
-      → EndsExactly (openLongNameRows enc mac id s t (length out)) (nameLength t ∷ []) (filled (nameOf enc t) (nameLength t) out) out (openLongName enc mac id s t out))
+      → EndsBy (openLongNameRules enc mac id s t (length out)) (nameLength t ∷ []) (filled (nameOf enc t) (nameLength t) out) out (openLongName enc mac id s t out))
 
-  -- What the name writer writes opens in the same directory to the name that went in: a full name of at most 220 characters by itself, a longer
+  -- The numbers of the rules ascend, so that with `NameRowsExactly` the lowest of the rows that apply is given.
+  abbrev pub NamesAscend : Type 0
+  NamesAscend =
+      ((room : ℕ) → Ascending (dirPathRules enc mac id room))
+      × ((name : List ℕ) (storedRoom fullRoom : ℕ) → Ascending (writeNameRules enc mac id name storedRoom fullRoom))
+      × ((t : List ℕ) (room : ℕ) → Ascending (openNameRules enc mac id t room))
+      × ((s t : List ℕ) (room : ℕ) → Ascending (openLongNameRules enc mac id s t room))
+
+  -- The path is written exactly when the keys and the directory ID fit and there is room; and then its characters are those of `path`.
+  abbrev pub PathWritesExactly : Type 0
+  PathWritesExactly =
+      (out : List ℕ)
+      → (Succeeded (dirPath enc mac id out) ↔ (KeySizes enc mac × IdFits id × (36 ≤ length out)))
+      × (KeySizes enc mac → IdFits id → 36 ≤ length out → dirPath enc mac id out ≡ ended (done (length (path enc mac id) ∷ [])) (filled (path enc mac id) (length (path enc mac id)) out))
+
+  -- A name is written exactly when the keys, the directory ID and the name fit and there is room.
+  abbrev pub NameWritesExactly : Type 0
+  NameWritesExactly =
+      (name stored full : List ℕ) → Bytes name
+      → ((lengths : List ℕ) × (writeName enc mac id name stored full .outcome ≡ done lengths))
+      ↔ (KeySizes enc mac × IdFits id × NameFits name × NameRoom (length stored) (length full) (length (fullName enc mac id name)))
+
+  -- And then what is written opens in the same directory to the name that went in: a full name of at most 220 characters by itself, a longer
   -- one with its hash name.
   abbrev pub NameWrittenOpens : Type 0
   NameWrittenOpens =
-      (name stored full into : List ℕ) → Bytes enc → Bytes mac → Bytes name → NoRow (writeNameRows enc mac id name (length stored) (length full)) → length name ≤ length into →
+      (name stored full into : List ℕ) → Directory enc mac id → NameFits name → NameRoom (length stored) (length full) (length (fullName enc mac id name)) → length name ≤ length into →
       let f = fullName enc mac id name in
       let e = writeName enc mac id name stored full in
       let opened = ended (done (length name ∷ [])) (filled name (length name) into) in
-      (length f ≤ threshold
+      (length f ≤ 220
       → (e ≡ nameEnded (done (length f ∷ [])) (filled f (length f) stored) full) × (openName enc mac id f into ≡ opened))
-      × (threshold < length f
+      × (220 < length f
       → (e ≡ nameEnded (done (length (hashName f) ∷ length f ∷ [])) (filled (hashName f) (length (hashName f)) stored) (filled f (length f) full))
       × (openLongName enc mac id (hashName f) f into ≡ opened))
 
@@ -73,19 +98,19 @@ module _ (enc mac id : List ℕ) where
   -- of some name in this directory; and then to that name.
   abbrev pub NameOpensExactly : Type 0
   NameOpensExactly =
-      (t out : List ℕ) → Directory enc mac id → (textRight t ≡ true → length t ≤ threshold → nameLength t ≤ length out)
-      → (Succeeded (openName enc mac id t out) ↔ ((name : List ℕ) × NameFits name × (fullName enc mac id name ≡ t) × (length t ≤ threshold)))
-      × ((name : List ℕ) → NameFits name → fullName enc mac id name ≡ t → length t ≤ threshold
+      (t out : List ℕ) → Directory enc mac id → (TextForm t → length t ≤ 220 → nameLength t ≤ length out)
+      → (Succeeded (openName enc mac id t out) ↔ ((name : List ℕ) × NameFits name × (fullName enc mac id name ≡ t) × (length t ≤ 220)))
+      × ((name : List ℕ) → NameFits name → fullName enc mac id name ≡ t → length t ≤ 220
       → openName enc mac id t out ≡ ended (done (length name ∷ [])) (filled name (length name) out))
 
   -- Given room, where the text form is right, a stored name and a full name open exactly when the full name has more than 220 characters and is that of some name in this
   -- directory, and the stored name is its hash name; and then to that name.
   abbrev pub LongNameOpensExactly : Type 0
   LongNameOpensExactly =
-      (s t out : List ℕ) → Directory enc mac id → (textRight t ≡ true → nameLength t ≤ length out)
+      (s t out : List ℕ) → Directory enc mac id → (TextForm t → nameLength t ≤ length out)
       → (Succeeded (openLongName enc mac id s t out)
-      ↔ ((name : List ℕ) × NameFits name × (fullName enc mac id name ≡ t) × (threshold < length t) × (s ≡ hashName t)))
-      × ((name : List ℕ) → NameFits name → fullName enc mac id name ≡ t → threshold < length t → s ≡ hashName t
+      ↔ ((name : List ℕ) × NameFits name × (fullName enc mac id name ≡ t) × (220 < length t) × (s ≡ hashName t)))
+      × ((name : List ℕ) → NameFits name → fullName enc mac id name ≡ t → 220 < length t → s ≡ hashName t
       → openLongName enc mac id s t out ≡ ended (done (length name ∷ [])) (filled name (length name) out))
 
   -- A name moved here from the directory `from`: it is refused exactly when its synthetic IV here is another than there, and opens to the same
@@ -96,9 +121,9 @@ module _ (enc mac id : List ℕ) where
       let f = fullName enc mac from name in
       let matches = same (s2v (aes 8 mac) (id ∷ name ∷ [])) (s2v (aes 8 mac) (from ∷ name ∷ [])) in
       let opened = ended (done (length name ∷ [])) (filled name (length name) out) in
-      (length f ≤ threshold
+      (length f ≤ 220
       → ((openName enc mac id f out ≡ ended (refused 12) out) ↔ (matches ≡ false)) × ((openName enc mac id f out ≡ opened) ↔ (matches ≡ true)))
-      × (threshold < length f
+      × (220 < length f
       → ((openLongName enc mac id (hashName f) f out ≡ ended (refused 12) out) ↔ (matches ≡ false))
       × ((openLongName enc mac id (hashName f) f out ≡ opened) ↔ (matches ≡ true)))
 
@@ -107,21 +132,15 @@ abbrev pub OneName : Type 0
 OneName =
     (enc mac id other a b : List ℕ) → Bytes enc → Bytes mac → NameFits a → NameFits b → fullName enc mac id a ≡ fullName enc mac other b → a ≡ b
 
--- Points: a name of 146 bytes has a full name of 220 characters and is stored as it is, one of 147 bytes has 224 and is shortened.
-abbrev pub NamePoints : Type 0
-NamePoints =
-    (enc mac id name : List ℕ) →
-    let f = fullName enc mac id name in
-    (length name ≡ 146 → (length f ≡ 220) × (storedName f ≡ f) × (writtenLengths (length f) ≡ 220 ∷ []))
-    × (length name ≡ 147 → (length f ≡ 224) × (storedName f ≡ hashName f) × (writtenLengths (length f) ≡ hashLength ∷ 224 ∷ []))
-
 -- Demand 1, of the calls on names and directory paths.
 abbrev pub NameDemandOne : Type 0
-NameDemandOne = (enc mac id : List ℕ) → NameRowsExactly enc mac id
+NameDemandOne = (enc mac id : List ℕ) → NameRowsExactly enc mac id × NamesAscend enc mac id
 
--- Demand 2, of names: reading gives back what was written, and nothing else is read.
+-- Demand 2, of names and directory paths: they are written exactly where they fit, reading gives back what was written, and nothing else is read.
 abbrev pub NameDemandTwo : Type 0
 NameDemandTwo =
-    ((enc mac id : List ℕ) → NameWrittenOpens enc mac id × NameOpensExactly enc mac id × LongNameOpensExactly enc mac id × MovedNameExactly enc mac id)
+    ((enc mac id : List ℕ)
+    → PathWritesExactly enc mac id × NameWritesExactly enc mac id
+    × NameWrittenOpens enc mac id × NameOpensExactly enc mac id × LongNameOpensExactly enc mac id × MovedNameExactly enc mac id)
     × OneName
     × TextLengths

@@ -13,7 +13,7 @@ use Rattle.octets.specs.Rows.{done, refused, ended}
 use Rattle.siv_gcm.specs.SivGcm.{masterKeysRight}
 use Rattle.name_spec.specs.Names.{idRight, hashName, short, textRight, nameLength, nameOf}
 use Rattle.name_spec.specs.Calls.{openLongNameRows}
-use Rattle.name_spec.proofs.Ends.{name-rows-exactly}
+use Rattle.name_spec.proofs.Ends.{name-ends}
 use Rattle.name_texts.proofs.Measured.{form-broken, form-right}
 use borrow.Author.Needs.{needs}
 use Rattle.names.proofs.opener.open_long_name.Statement.{statement}
@@ -53,7 +53,7 @@ returns : tie.Need-returns
 unfolding openLongNameRows
 returns c =
     let x = c .before .before .before .before .before .before .before .before .args in
-    let exact = name-rows-exactly (x .enc .now) (x .mac .now) (x .dir-id .now) .3 (x .stored .now) (x .full .now) (x .out .now) in
+    let exact = name-ends (x .enc .now) (x .mac .now) (x .dir-id .now) .3 (x .stored .now) (x .full .now) (x .out .now) in
     sym (exact .0 0 (omega arith) .1 (ap not (sym (c .before .master-keys-right .ensures)) ∙ c .if1 .taken))
 
 id-right-requires : tie.Need-id-right-requires
@@ -63,7 +63,7 @@ returns-2 : tie.Need-returns-2
 unfolding openLongNameRows
 returns-2 c =
     let x = c .before .before .before .before .before .before .before .before .before .before .args in
-    let exact = name-rows-exactly (x .enc .now) (x .mac .now) (x .dir-id .now) .3 (x .stored .now) (x .full .now) (x .out .now) in
+    let exact = name-ends (x .enc .now) (x .mac .now) (x .dir-id .now) .3 (x .stored .now) (x .full .now) (x .out .now) in
     sym (exact .0 1 (omega arith) .1 (ap not (keys (c .before .before)), ap not (sym (c .before .id-right .ensures)) ∙ c .if2 .taken))
 
 name-length-requires : tie.Need-name-length-requires
@@ -73,7 +73,7 @@ returns-3 : tie.Need-returns-3
 unfolding openLongNameRows
 returns-3 c =
     let x = c .before .before .before .before .before .before .before .before .before .before .before .before .args in
-    let exact = name-rows-exactly (x .enc .now) (x .mac .now) (x .dir-id .now) .3 (x .stored .now) (x .full .now) (x .out .now) in
+    let exact = name-ends (x .enc .now) (x .mac .now) (x .dir-id .now) .3 (x .stored .now) (x .full .now) (x .out .now) in
     let f = form-broken (x .full .now) _ (c .before .name-length .ensures) (c .if3 .taken) in
     sym (exact .0 2 (omega arith) .1 (ap not (keys (c .before .before .before .before)), (ap not (right (c .before .before)), ap not f)))
 
@@ -82,7 +82,7 @@ unfolding openLongNameRows
 returns-4 c =
     let k = c .before in
     let x = k .before .before .before .before .before .before .before .before .before .before .before .before .args in
-    let exact = name-rows-exactly (x .enc .now) (x .mac .now) (x .dir-id .now) .3 (x .stored .now) (x .full .now) (x .out .now) in
+    let exact = name-ends (x .enc .now) (x .mac .now) (x .dir-id .now) .3 (x .stored .now) (x .full .now) (x .out .now) in
     let m = form k .1 in
     sym (exact .0 3 (omega arith) .1 (ap not (keys (k .before .before .before .before)), (ap not (right (k .before .before)), (ap not (form k .0), lt-ltb (length (x .out .now)) (nameLength (x .full .now)) (omega (arith, m, c .if4 .taken))))))
 
@@ -94,7 +94,7 @@ unfolding openLongNameRows
 returns-5 c =
     let k = c .before .before .before in
     let x = k .before .before .before .before .before .before .before .before .before .before .before .before .args in
-    let exact = name-rows-exactly (x .enc .now) (x .mac .now) (x .dir-id .now) .3 (x .stored .now) (x .full .now) (x .out .now) in
+    let exact = name-ends (x .enc .now) (x .mac .now) (x .dir-id .now) .3 (x .stored .now) (x .full .now) (x .out .now) in
     let s = ap (λ (b : Bool). b || not (same (x .stored .now) (hashName (x .full .now)))) (sym (c .before .short .ensures) ∙ c .if5 .taken) in
     sym (exact .0 4 (omega arith) .1 (ap not (keys (k .before .before .before .before)), (ap not (right (k .before .before)), (ap not (form k .0), (roomy (c .before .before), s)))))
 
@@ -106,7 +106,7 @@ unfolding openLongNameRows
 returns-6 c =
     let k = c .before .before .before .before .before in
     let x = k .before .before .before .before .before .before .before .before .before .before .before .before .args in
-    let exact = name-rows-exactly (x .enc .now) (x .mac .now) (x .dir-id .now) .3 (x .stored .now) (x .full .now) (x .out .now) in
+    let exact = name-ends (x .enc .now) (x .mac .now) (x .dir-id .now) .3 (x .stored .now) (x .full .now) (x .out .now) in
     let s = ap₂ (λ (a b : Bool). a || not b) (long (c .before .before)) (sym (c .before .is-hash .ensures) ∙ not-true _ (c .if6 .taken)) in
     sym (exact .0 4 (omega arith) .1 (ap not (keys (k .before .before .before .before)), (ap not (right (k .before .before)), (ap not (form k .0), (roomy (c .before .before .before .before), s)))))
 
@@ -121,7 +121,7 @@ unfolding openLongNameRows
 returns-7 c =
     let k = c .before .before .before .before .before .before .before .before .before .before in
     let x = k .before .before .before .before .before .before .before .before .before .before .before .before .args in
-    let exact = name-rows-exactly (x .enc .now) (x .mac .now) (x .dir-id .now) .3 (x .stored .now) (x .full .now) (x .out .now) in
+    let exact = name-ends (x .enc .now) (x .mac .now) (x .dir-id .now) .3 (x .stored .now) (x .full .now) (x .out .now) in
     let t = x .full .now in
     let u = c .before .before .before .open-text in
     let no = not-true _ (c .if7 .taken) in
@@ -136,7 +136,7 @@ unfolding openLongNameRows
 returns-8 c =
     let k = c .before .before .before .before .before .before .before .before .before .before in
     let x = k .before .before .before .before .before .before .before .before .before .before .before .before .args in
-    let exact = name-rows-exactly (x .enc .now) (x .mac .now) (x .dir-id .now) .3 (x .stored .now) (x .full .now) (x .out .now) in
+    let exact = name-ends (x .enc .now) (x .mac .now) (x .dir-id .now) .3 (x .stored .now) (x .full .now) (x .out .now) in
     let t = x .full .now in
     let u = c .before .before .before .open-text in
     let ok = not-false _ (c .if7 .left) in

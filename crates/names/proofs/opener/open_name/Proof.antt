@@ -13,7 +13,7 @@ use Rattle.octets.specs.Rows.{done, refused, ended}
 use Rattle.siv_gcm.specs.SivGcm.{masterKeysRight}
 use Rattle.name_spec.specs.Names.{idRight, short, textRight, nameLength, nameOf}
 use Rattle.name_spec.specs.Calls.{openNameRows}
-use Rattle.name_spec.proofs.Ends.{name-rows-exactly}
+use Rattle.name_spec.proofs.Ends.{name-ends}
 use Rattle.name_texts.proofs.Measured.{form-broken, form-right}
 use borrow.Author.Needs.{needs}
 use Rattle.names.proofs.opener.open_name.Statement.{statement}
@@ -51,7 +51,7 @@ returns : tie.Need-returns
 unfolding openNameRows
 returns c =
     let x = c .before .before .before .before .before .before .before .args in
-    let exact = name-rows-exactly (x .enc .now) (x .mac .now) (x .dir-id .now) .2 (x .stored .now) (x .out .now) in
+    let exact = name-ends (x .enc .now) (x .mac .now) (x .dir-id .now) .2 (x .stored .now) (x .out .now) in
     sym (exact .0 0 (omega arith) .1 (ap not (sym (c .before .master-keys-right .ensures)) ∙ c .if1 .taken))
 
 id-right-requires : tie.Need-id-right-requires
@@ -61,7 +61,7 @@ returns-2 : tie.Need-returns-2
 unfolding openNameRows
 returns-2 c =
     let x = c .before .before .before .before .before .before .before .before .before .args in
-    let exact = name-rows-exactly (x .enc .now) (x .mac .now) (x .dir-id .now) .2 (x .stored .now) (x .out .now) in
+    let exact = name-ends (x .enc .now) (x .mac .now) (x .dir-id .now) .2 (x .stored .now) (x .out .now) in
     sym (exact .0 1 (omega arith) .1 (ap not (keys (c .before .before)), ap not (sym (c .before .id-right .ensures)) ∙ c .if2 .taken))
 
 short-requires : tie.Need-short-requires
@@ -71,7 +71,7 @@ returns-3 : tie.Need-returns-3
 unfolding openNameRows
 returns-3 c =
     let x = c .before .before .before .before .before .before .before .before .before .before .before .args in
-    let exact = name-rows-exactly (x .enc .now) (x .mac .now) (x .dir-id .now) .2 (x .stored .now) (x .out .now) in
+    let exact = name-ends (x .enc .now) (x .mac .now) (x .dir-id .now) .2 (x .stored .now) (x .out .now) in
     let t = x .stored .now in
     let s : short (length t) ≡ false = sym (c .before .short .ensures) ∙ not-true _ (c .if3 .taken) in
     let f = ap (λ (b : Bool). not (textRight t) || not b) s ∙ or-true (not (textRight t)) in
@@ -84,7 +84,7 @@ returns-4 : tie.Need-returns-4
 unfolding openNameRows
 returns-4 c =
     let x = c .before .before .before .before .before .before .before .before .before .before .before .before .before .args in
-    let exact = name-rows-exactly (x .enc .now) (x .mac .now) (x .dir-id .now) .2 (x .stored .now) (x .out .now) in
+    let exact = name-ends (x .enc .now) (x .mac .now) (x .dir-id .now) .2 (x .stored .now) (x .out .now) in
     let t = x .stored .now in
     let f = ap (λ (b : Bool). not b || not (short (length t))) (form-broken t _ (c .before .name-length .ensures) (c .if4 .taken)) in
     sym (exact .0 2 (omega arith) .1 (ap not (keys (c .before .before .before .before .before .before)), (ap not (right (c .before .before .before .before)), f)))
@@ -94,7 +94,7 @@ unfolding openNameRows
 returns-5 c =
     let k = c .before in
     let x = k .before .before .before .before .before .before .before .before .before .before .before .before .before .args in
-    let exact = name-rows-exactly (x .enc .now) (x .mac .now) (x .dir-id .now) .2 (x .stored .now) (x .out .now) in
+    let exact = name-ends (x .enc .now) (x .mac .now) (x .dir-id .now) .2 (x .stored .now) (x .out .now) in
     let t = x .stored .now in
     let m = form k .1 in
     sym (exact .0 3 (omega arith) .1 (ap not (keys (k .before .before .before .before .before .before)), (ap not (right (k .before .before .before .before)), (text k, lt-ltb (length (x .out .now)) (nameLength t) (omega (arith, m, c .if5 .taken))))))
@@ -110,7 +110,7 @@ unfolding openNameRows
 returns-6 c =
     let k = c .before .before .before .before .before .before in
     let x = k .before .before .before .before .before .before .before .before .before .before .before .before .before .args in
-    let exact = name-rows-exactly (x .enc .now) (x .mac .now) (x .dir-id .now) .2 (x .stored .now) (x .out .now) in
+    let exact = name-ends (x .enc .now) (x .mac .now) (x .dir-id .now) .2 (x .stored .now) (x .out .now) in
     let t = x .stored .now in
     let u = c .before .before .before .open-text in
     let no = not-true _ (c .if6 .taken) in
@@ -125,7 +125,7 @@ unfolding openNameRows
 returns-7 c =
     let k = c .before .before .before .before .before .before in
     let x = k .before .before .before .before .before .before .before .before .before .before .before .before .before .args in
-    let exact = name-rows-exactly (x .enc .now) (x .mac .now) (x .dir-id .now) .2 (x .stored .now) (x .out .now) in
+    let exact = name-ends (x .enc .now) (x .mac .now) (x .dir-id .now) .2 (x .stored .now) (x .out .now) in
     let t = x .stored .now in
     let u = c .before .before .before .open-text in
     let ok = not-false _ (c .if6 .left) in

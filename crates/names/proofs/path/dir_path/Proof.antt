@@ -10,8 +10,9 @@ use Rattle.octets.specs.Rows.{done, ended}
 use Rattle.siv_gcm.specs.SivGcm.{masterKeysRight}
 use Rattle.name_spec.specs.Names.{idRight, path}
 use Rattle.name_spec.specs.Calls.{pathLength, dirPathRows}
-use Rattle.name_spec.proofs.Texts.{length-path, id-size}
-use Rattle.name_spec.proofs.Ends.{name-rows-exactly}
+use Rattle.name_spec.proofs.Texts.{length-path}
+use Rattle.name_spec.proofs.Rules.{id-exactly}
+use Rattle.name_spec.proofs.Ends.{name-ends}
 use Rattle.name_texts.proofs.Placing.{placed-filled}
 use borrow.Author.Needs.{needs}
 use Rattle.names.proofs.path.dir_path.Statement.{statement}
@@ -32,7 +33,7 @@ returns : tie.Need-returns
 unfolding dirPathRows
 returns c =
     let x = c .before .before .before .before .before .before .args in
-    let exact = name-rows-exactly (x .enc .now) (x .mac .now) (x .dir-id .now) .0 (x .out .now) in
+    let exact = name-ends (x .enc .now) (x .mac .now) (x .dir-id .now) .0 (x .out .now) in
     sym (exact .0 0 (omega arith) .1 (ap not (sym (c .before .master-keys-right .ensures)) ∙ c .if1 .taken))
 
 id-right-requires : tie.Need-id-right-requires
@@ -42,18 +43,18 @@ returns-2 : tie.Need-returns-2
 unfolding dirPathRows
 returns-2 c =
     let x = c .before .before .before .before .before .before .before .before .args in
-    let exact = name-rows-exactly (x .enc .now) (x .mac .now) (x .dir-id .now) .0 (x .out .now) in
+    let exact = name-ends (x .enc .now) (x .mac .now) (x .dir-id .now) .0 (x .out .now) in
     sym (exact .0 1 (omega arith) .1 (ap not (keys (c .before .before)), ap not (sym (c .before .id-right .ensures)) ∙ c .if2 .taken))
 
 returns-3 : tie.Need-returns-3
 unfolding dirPathRows
 returns-3 c =
     let x = c .before .before .before .before .before .before .before .before .before .args in
-    let exact = name-rows-exactly (x .enc .now) (x .mac .now) (x .dir-id .now) .0 (x .out .now) in
+    let exact = name-ends (x .enc .now) (x .mac .now) (x .dir-id .now) .0 (x .out .now) in
     sym (exact .0 2 (omega arith) .1 (ap not (keys (c .before .before .before)), (ap not (right (c .before)), lt-ltb (length (x .out .now)) pathLength (omega (arith, c .if3 .taken)))))
 
 write-path-requires : tie.Need-write-path-requires
-write-path-requires c κs = (keys (c .before .before .before .before), (id-size (c .before .before .before .before .before .before .before .before .before .before .args .dir-id .now) (right (c .before .before)), omega (arith, c .before .if3 .left)))
+write-path-requires c κs = (keys (c .before .before .before .before), (id-exactly (c .before .before .before .before .before .before .before .before .before .before .args .dir-id .now) .0 (right (c .before .before)) .0, omega (arith, c .before .if3 .left)))
 
 same-length : tie.Need-same-length
 same-length c = search needs
@@ -63,7 +64,7 @@ unfolding dirPathRows
 returns-4 c =
     let k = c .before .before .before .before in
     let x = k .before .before .before .before .before .before .before .before .before .args in
-    let exact = name-rows-exactly (x .enc .now) (x .mac .now) (x .dir-id .now) .0 (x .out .now) in
+    let exact = name-ends (x .enc .now) (x .mac .now) (x .dir-id .now) .0 (x .out .now) in
     let p = path (x .enc .now) (x .mac .now) (x .dir-id .now) in
     ap (ended (done (pathLength ∷ []))) (c .before .before .write-path .ensures ∙ placed-filled p (x .out .now) pathLength (length-path (x .enc .now) (x .mac .now) (x .dir-id .now)))
     ∙ sym (exact .1 .1 (ap not (keys (k .before .before .before)), (ap not (right (k .before)), (le-ltb (length (x .out .now)) pathLength (omega (arith, k .if3 .left)), tt))))

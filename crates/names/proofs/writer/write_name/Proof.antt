@@ -12,8 +12,9 @@ use Rattle.octets.specs.Rows.{done}
 use Rattle.siv_gcm.specs.SivGcm.{masterKeysRight}
 use Rattle.name_spec.specs.Names.{threshold, idRight, nameRight, fullName, hashName, short}
 use Rattle.name_spec.specs.Calls.{hashLength, lacksRoom, nameEnded, writeNameRows}
-use Rattle.name_spec.proofs.Texts.{name-sizes, length-full, length-hash}
-use Rattle.name_spec.proofs.Ends.{name-rows-exactly, plain-written, long-written}
+use Rattle.name_spec.proofs.Texts.{length-full, length-hash}
+use Rattle.name_spec.proofs.Rules.{name-exactly}
+use Rattle.name_spec.proofs.Ends.{name-ends, plain-written, long-written}
 use Rattle.name_texts.proofs.Placing.{front, placed-filled}
 use Rattle.names.proofs.Room.{plain-lacks, plain-has, stored-lacks, full-lacks, both-have}
 use borrow.Author.Needs.{needs}
@@ -53,7 +54,7 @@ returns : tie.Need-returns
 unfolding writeNameRows
 returns c =
     let x = c .before .before .before .before .before .before .before .before .args in
-    let exact = name-rows-exactly (x .enc .now) (x .mac .now) (x .dir-id .now) .1 (x .name .now) (x .stored .now) (x .full .now) in
+    let exact = name-ends (x .enc .now) (x .mac .now) (x .dir-id .now) .1 (x .name .now) (x .stored .now) (x .full .now) in
     sym (exact .0 0 (omega arith) .1 (ap not (sym (c .before .master-keys-right .ensures)) ∙ c .if1 .taken))
 
 id-right-requires : tie.Need-id-right-requires
@@ -63,7 +64,7 @@ returns-2 : tie.Need-returns-2
 unfolding writeNameRows
 returns-2 c =
     let x = c .before .before .before .before .before .before .before .before .before .before .args in
-    let exact = name-rows-exactly (x .enc .now) (x .mac .now) (x .dir-id .now) .1 (x .name .now) (x .stored .now) (x .full .now) in
+    let exact = name-ends (x .enc .now) (x .mac .now) (x .dir-id .now) .1 (x .name .now) (x .stored .now) (x .full .now) in
     sym (exact .0 1 (omega arith) .1 (ap not (keys (c .before .before)), ap not (sym (c .before .id-right .ensures)) ∙ c .if2 .taken))
 
 name-right-requires : tie.Need-name-right-requires
@@ -73,11 +74,11 @@ returns-3 : tie.Need-returns-3
 unfolding writeNameRows
 returns-3 c =
     let x = c .before .before .before .before .before .before .before .before .before .before .before .before .args in
-    let exact = name-rows-exactly (x .enc .now) (x .mac .now) (x .dir-id .now) .1 (x .name .now) (x .stored .now) (x .full .now) in
+    let exact = name-ends (x .enc .now) (x .mac .now) (x .dir-id .now) .1 (x .name .now) (x .stored .now) (x .full .now) in
     sym (exact .0 2 (omega arith) .1 (ap not (keys (c .before .before .before .before)), (ap not (right (c .before .before)), ap not (sym (c .before .name-right .ensures)) ∙ c .if3 .taken)))
 
 full-length-requires : tie.Need-full-length-requires
-full-length-requires c κs = name-sizes _ (sized c) .1
+full-length-requires c κs = name-exactly _ .0 (sized c) .1
 
 short-requires : tie.Need-short-requires
 short-requires c κs = search needs
@@ -87,14 +88,14 @@ unfolding writeNameRows
 returns-4 c =
     let k = c .before .before .before in
     let x = k .before .before .before .before .before .before .before .before .before .before .before .before .before .args in
-    let exact = name-rows-exactly (x .enc .now) (x .mac .now) (x .dir-id .now) .1 (x .name .now) (x .stored .now) (x .full .now) in
+    let exact = name-ends (x .enc .now) (x .mac .now) (x .dir-id .now) .1 (x .name .now) (x .stored .now) (x .full .now) in
     let r = ap (lacksRoom (length (x .stored .now)) (length (x .full .now))) (sym (k .full-length .ensures)) ∙ plain-lacks (length (x .stored .now)) (length (x .full .now)) (k .full-length .result) (brief (c .before)) (c .if5 .taken) in
     sym (exact .0 3 (omega arith) .1 (ap not (keys (k .before .before .before .before .before)), (ap not (right (k .before .before .before)), (ap not (sized (k .before)), r))))
 
 write-full-requires : tie.Need-write-full-requires
 write-full-requires c κs =
     let k = c .before .before .before .before in
-    (keys (k .before .before .before .before .before), (name-sizes _ (sized (k .before)) .1, omega (arith, k .full-length .ensures, c .before .if5 .left)))
+    (keys (k .before .before .before .before .before), (name-exactly _ .0 (sized (k .before)) .1, omega (arith, k .full-length .ensures, c .before .if5 .left)))
 
 same-length : tie.Need-same-length
 same-length c = search needs
@@ -104,7 +105,7 @@ unfolding writeNameRows
 returns-5 c =
     let k = c .before .before .before .before .before .before .before in
     let x = k .before .before .before .before .before .before .before .before .before .before .before .before .before .args in
-    let exact = name-rows-exactly (x .enc .now) (x .mac .now) (x .dir-id .now) .1 (x .name .now) (x .stored .now) (x .full .now) in
+    let exact = name-ends (x .enc .now) (x .mac .now) (x .dir-id .now) .1 (x .name .now) (x .stored .now) (x .full .now) in
     let n = k .full-length .result in
     let f = fullName (x .enc .now) (x .mac .now) (x .dir-id .now) (x .name .now) in
     let s = brief (c .before .before .before .before .before) in
@@ -118,7 +119,7 @@ unfolding writeNameRows
 returns-6 c =
     let k = c .before .before .before in
     let x = k .before .before .before .before .before .before .before .before .before .before .before .before .before .args in
-    let exact = name-rows-exactly (x .enc .now) (x .mac .now) (x .dir-id .now) .1 (x .name .now) (x .stored .now) (x .full .now) in
+    let exact = name-ends (x .enc .now) (x .mac .now) (x .dir-id .now) .1 (x .name .now) (x .stored .now) (x .full .now) in
     let r = ap (lacksRoom (length (x .stored .now)) (length (x .full .now))) (sym (k .full-length .ensures)) ∙ stored-lacks (length (x .stored .now)) (length (x .full .now)) (k .full-length .result) (long (c .before)) (omega (arith, c .if6 .taken)) in
     sym (exact .0 3 (omega arith) .1 (ap not (keys (k .before .before .before .before .before)), (ap not (right (k .before .before .before)), (ap not (sized (k .before)), r))))
 
@@ -127,14 +128,14 @@ unfolding writeNameRows
 returns-7 c =
     let k = c .before .before .before .before in
     let x = k .before .before .before .before .before .before .before .before .before .before .before .before .before .args in
-    let exact = name-rows-exactly (x .enc .now) (x .mac .now) (x .dir-id .now) .1 (x .name .now) (x .stored .now) (x .full .now) in
+    let exact = name-ends (x .enc .now) (x .mac .now) (x .dir-id .now) .1 (x .name .now) (x .stored .now) (x .full .now) in
     let r = ap (lacksRoom (length (x .stored .now)) (length (x .full .now))) (sym (k .full-length .ensures)) ∙ full-lacks (length (x .stored .now)) (length (x .full .now)) (k .full-length .result) (long (c .before .before)) (omega (arith, c .before .if6 .left)) (c .if7 .taken) in
     sym (exact .0 3 (omega arith) .1 (ap not (keys (k .before .before .before .before .before)), (ap not (right (k .before .before .before)), (ap not (sized (k .before)), r))))
 
 write-full-requires-2 : tie.Need-write-full-requires-2
 write-full-requires-2 c κs =
     let k = c .before .before .before .before .before in
-    (keys (k .before .before .before .before .before), (name-sizes _ (sized (k .before)) .1, omega (arith, k .full-length .ensures, c .before .if7 .left)))
+    (keys (k .before .before .before .before .before), (name-exactly _ .0 (sized (k .before)) .1, omega (arith, k .full-length .ensures, c .before .if7 .left)))
 
 slice-reshare-prefix-write-hash : tie.Need-slice-reshare-prefix-write-hash
 slice-reshare-prefix-write-hash c = search needs
@@ -159,7 +160,7 @@ unfolding writeNameRows
 returns-8 c =
     let k = c .before .before .before .before .before .before .before .before .before .before .before .before .before in
     let x = k .before .before .before .before .before .before .before .before .before .before .before .before .before .args in
-    let exact = name-rows-exactly (x .enc .now) (x .mac .now) (x .dir-id .now) .1 (x .name .now) (x .stored .now) (x .full .now) in
+    let exact = name-ends (x .enc .now) (x .mac .now) (x .dir-id .now) .1 (x .name .now) (x .stored .now) (x .full .now) in
     let n = k .full-length .result in
     let f = fullName (x .enc .now) (x .mac .now) (x .dir-id .now) (x .name .now) in
     let w = c .before .before .before .before .before .before .before in

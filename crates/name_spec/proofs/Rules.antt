@@ -1,0 +1,112 @@
+-- The rows of each call match its rules, and so the calls go by these, exactly.
+-- Assumes nothing.
+use Prim.Native.Nat.{ℕ, zero, suc, _≤_, _<_}
+use mathlib.Core.Path.{_≡_, refl, sym, ap, _∙_}
+use mathlib.Core.Bool.{Bool, true, false, not, _&&_, _||_, cond}
+use mathlib.Core.Logic.{_↔_}
+use mathlib.Core.List.{List, [], _∷_}
+use native.Mathlib.Omega.{arith}
+use lib.ListN.{length}
+use lib.Dec.{ltb, leb, lit≤}
+use borrow.Author.Tests.{leb-true, leb-false, ltb-true, lt-ltb}
+use Rattle.octets.specs.Bytes.{Below, filled, same}
+use Rattle.octets.specs.Rows.{done, End}
+use Rattle.octets.proofs.Bytes.{below-nil, below-cons}
+use Rattle.octets.proofs.Tests.{self, leb-exactly, leb-fails, ltb-fails, both-exactly, not-fails, or-fails, same-exactly}
+use Rattle.octets.proofs.Rows.{Matches, ends-by, succeeds-exactly}
+use Rattle.siv_gcm.proofs.KeySizes.{keys-exactly}
+use Rattle.name_spec.specs.Names.{ascii, idRight, nameRight, path, fullName, fullLength, hashName, short, storedName, textRight, nameLength, nameOf, nameGood}
+use Rattle.name_spec.specs.Calls.{pathLength, storedLength, writtenLengths, lacksRoom, dirPathRows, dirPath, writeNameRows, writeName, openNameRows, openName, openLongNameRows, openLongName}
+use Rattle.name_spec.specs.Rules.{IdFits, NameSize, TextForm, NameRoom, dirPathRules, writeNameRules, openNameRules, openLongNameRules}
+use Rattle.name_spec.specs.Statements.{NameRowsExactly, NamesAscend}
+use Rattle.name_spec.proofs.Texts.{text-of, form}
+use Rattle.name_spec.proofs.Ends.{name-ends-by}
+
+-- ---- what the tests say
+
+ascii-exactly : (s : List ℕ) → (ascii s ≡ true) ↔ Below 128 s
+unfolding ascii
+ascii-exactly [] = (λ e. below-nil (lit≤ tt), λ b. refl)
+ascii-exactly (a ∷ s) =
+    let both = both-exactly (below a) (ascii-exactly s) in
+    (λ e. let p = both .0 e in below-cons (p .0) (p .1), λ b. both .1 (b .at 0, record { at = λ i. b .at (suc i) }))
+  where
+    below : (a : ℕ) → (ltb a 128 ≡ true) ↔ (a < 128)
+    below a = (ltb-true a 128, lt-ltb a 128)
+
+pub id-exactly : (id : List ℕ) → (idRight id ≡ true) ↔ IdFits id
+unfolding idRight
+id-exactly id = both-exactly (leb-exactly (length id) 36) (ascii-exactly id)
+
+pub name-exactly : (name : List ℕ) → (nameRight name ≡ true) ↔ NameSize name
+unfolding nameRight
+name-exactly name = both-exactly (leb-exactly 1 (length name)) (leb-exactly (length name) 255)
+
+pub text-exactly : (t : List ℕ) → (textRight t ≡ true) ↔ TextForm t
+text-exactly t = (form t, λ f. ap textRight (sym (f .4)) ∙ text-of (f .0) (f .1) (f .2) (f .3))
+
+room-exactly : (storedRoom fullRoom n : ℕ) → (lacksRoom storedRoom fullRoom n ≡ false) ↔ NameRoom storedRoom fullRoom n
+room-exactly s f n = go (short n) refl
+  where
+    go : (b : Bool) → short n ≡ b → ((ltb s (cond b n 32) || (not b && ltb f n)) ≡ false) ↔ NameRoom s f n
+    go true e =
+        let plain = leb-true n 220 e in
+        let both : ((ltb s n || false) ≡ false) ↔ ((n ≤ s) × (false ≡ false)) = or-fails (ltb s n) false (ltb-fails s n) (λ x. x, λ x. x) in
+        (λ x. (λ h. both .0 x .0, λ h. absurd (omega (arith, plain, h))), λ r. both .1 (r .0 plain, refl))
+    go false e =
+        let long = leb-false n 220 e in
+        let both : ((ltb s 32 || ltb f n) ≡ false) ↔ ((32 ≤ s) × (n ≤ f)) = or-fails (ltb s 32) (ltb f n) (ltb-fails s 32) (ltb-fails f n) in
+        (λ x. (λ h. absurd (omega (arith, long, h)), λ h. both .0 x), λ r. both .1 (r .1 long))
+
+-- ---- the rows of each call
+
+module _ (enc mac id : List ℕ) where
+  pub path-matches : (room : ℕ) → Matches (dirPathRows enc mac id room) (dirPathRules enc mac id room)
+  unfolding dirPathRows
+  path-matches room = (refl, not-fails (keys-exactly enc mac), (refl, not-fails (id-exactly id), (refl, ltb-fails room 36, tt)))
+
+  pub write-matches : (name : List ℕ) (storedRoom fullRoom : ℕ) → Matches (writeNameRows enc mac id name storedRoom fullRoom) (writeNameRules enc mac id name storedRoom fullRoom)
+  unfolding writeNameRows
+  write-matches name storedRoom fullRoom = (
+    refl,
+    not-fails (keys-exactly enc mac),
+    (refl, not-fails (id-exactly id), (refl, not-fails (name-exactly name), (refl, room-exactly storedRoom fullRoom (fullLength (length name)), tt))),
+  )
+
+  pub open-matches : (t : List ℕ) (room : ℕ) → Matches (openNameRows enc mac id t room) (openNameRules enc mac id t room)
+  unfolding openNameRows
+  open-matches t room =
+      let text = or-fails (not (textRight t)) (not (short (length t))) (not-fails (text-exactly t)) (not-fails (leb-exactly (length t) 220)) in (
+        refl,
+        not-fails (keys-exactly enc mac),
+        (refl, not-fails (id-exactly id), (refl, text, (refl, ltb-fails room (nameLength t), (refl, not-fails (self (nameGood enc mac id t)), tt)))),
+      )
+
+  pub open-long-matches : (s t : List ℕ) (room : ℕ) → Matches (openLongNameRows enc mac id s t room) (openLongNameRules enc mac id s t room)
+  unfolding openLongNameRows
+  open-long-matches s t room =
+      let pair = or-fails (short (length t)) (not (same s (hashName t))) (leb-fails (length t) 220) (not-fails (same-exactly s (hashName t))) in (
+        refl,
+        not-fails (keys-exactly enc mac),
+        (
+          refl,
+          not-fails (id-exactly id),
+          (refl, not-fails (text-exactly t), (refl, ltb-fails room (nameLength t), (refl, pair, (refl, not-fails (self (nameGood enc mac id t)), tt)))),
+        ),
+      )
+
+  pub name-rows-exactly : NameRowsExactly enc mac id
+  unfolding dirPathRows dirPath writeNameRows writeName openNameRows openName openLongNameRows openLongName
+  name-rows-exactly = (
+    λ out. ends-by (dirPathRows enc mac id (length out)) (dirPathRules enc mac id (length out)) (path-matches (length out)) refl (pathLength ∷ []) _ out,
+    λ name stored full.
+        let f = fullName enc mac id name in
+        let n = fullLength (length name) in
+        name-ends-by (writeNameRows enc mac id name (length stored) (length full)) refl (writtenLengths n) (filled (storedName f) (storedLength n) stored) (cond (short n) full (filled f n full)) stored full
+        (writeNameRules enc mac id name (length stored) (length full)) (write-matches name (length stored) (length full)),
+    λ t out. ends-by (openNameRows enc mac id t (length out)) (openNameRules enc mac id t (length out)) (open-matches t (length out)) refl (nameLength t ∷ []) _ out,
+    λ s t out. ends-by (openLongNameRows enc mac id s t (length out)) (openLongNameRules enc mac id s t (length out)) (open-long-matches s t (length out)) refl (nameLength t ∷ []) _ out,
+  )
+
+  pub names-ascend : NamesAscend enc mac id
+  names-ascend = (λ room. refl, λ name storedRoom fullRoom. refl, λ t room. refl, λ s t room. refl)

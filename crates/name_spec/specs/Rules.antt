@@ -1,0 +1,69 @@
+-- What each row of each call asks for, in words of sizes, limits and bytes, with the format's numbers; row 12 asks for the synthetic IV, as
+-- `nameGood` tests it. `Statements` says that the calls go by these rules.
+-- Assumes nothing.
+use mathlib.Core.Path.{_≡_}
+use mathlib.Core.Bool.{true}
+use mathlib.Core.List.{List, [], _∷_, _++_}
+use Prim.Native.Nat.{ℕ, _≤_, _<_}
+use lib.ListN.{length}
+use Rattle.octets.specs.Bytes.{Below, Bytes}
+use Rattle.octets.specs.Rows.{refused, Rule}
+use Rattle.encoding.specs.Base64url as base64url
+use Rattle.siv_gcm.specs.SivGcm.{KeySizes}
+use Rattle.name_spec.specs.Names.{fullEnd, fullLength, hashName, nameLength, nameGood}
+
+-- A directory ID: at most 36 bytes, each below 128.
+abbrev pub IdFits : List ℕ → Type 0
+IdFits id = (length id ≤ 36) × Below 128 id
+
+-- The size of a name: 1 to 255 bytes.
+abbrev pub NameSize : List ℕ → Type 0
+NameSize name = (1 ≤ length name) × (length name ≤ 255)
+
+-- The text form of a full name: base64url with padding of 17 to 271 bytes, and its end.
+abbrev pub TextForm : List ℕ → Type 0
+TextForm t = (s : List ℕ) × Bytes s × (17 ≤ length s) × (length s ≤ 271) × (base64url.encode true s ++ fullEnd ≡ t)
+
+-- Room for what is written of a full name of n characters: up to 220, the first buffer holds it; beyond, the first holds the 32 characters of its
+-- hash name, and the second the full name.
+abbrev pub NameRoom : ℕ → ℕ → ℕ → Type 0
+NameRoom storedRoom fullRoom n = (n ≤ 220 → n ≤ storedRoom) × (220 < n → (32 ≤ storedRoom) × (n ≤ fullRoom))
+
+module _ (enc mac id : List ℕ) where
+  -- the path of a directory
+  abbrev pub dirPathRules : ℕ → List Rule
+  dirPathRules room =
+      (KeySizes enc mac, refused 1)
+      ∷ (IdFits id, refused 2)
+      ∷ (36 ≤ room, refused 7)
+      ∷ []
+
+  -- writing a name
+  abbrev pub writeNameRules : List ℕ → ℕ → ℕ → List Rule
+  writeNameRules name storedRoom fullRoom =
+      (KeySizes enc mac, refused 1)
+      ∷ (IdFits id, refused 2)
+      ∷ (NameSize name, refused 3)
+      ∷ (NameRoom storedRoom fullRoom (fullLength (length name)), refused 7)
+      ∷ []
+
+  -- opening the text t as a name that is stored as it is
+  abbrev pub openNameRules : List ℕ → ℕ → List Rule
+  openNameRules t room =
+      (KeySizes enc mac, refused 1)
+      ∷ (IdFits id, refused 2)
+      ∷ (TextForm t × (length t ≤ 220), refused 5)
+      ∷ (nameLength t ≤ room, refused 7)
+      ∷ (nameGood enc mac id t ≡ true, refused 12)
+      ∷ []
+
+  -- opening the stored name s with the full name t
+  abbrev pub openLongNameRules : List ℕ → List ℕ → ℕ → List Rule
+  openLongNameRules s t room =
+      (KeySizes enc mac, refused 1)
+      ∷ (IdFits id, refused 2)
+      ∷ (TextForm t, refused 5)
+      ∷ (nameLength t ≤ room, refused 7)
+      ∷ ((220 < length t) × (s ≡ hashName t), refused 11)
+      ∷ (nameGood enc mac id t ≡ true, refused 12)
+      ∷ []
