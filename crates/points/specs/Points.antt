@@ -1,24 +1,53 @@
--- The test points of the definitions, in one table.
+-- The test points of the definitions, twelve rows in one table.
 -- Assumes nothing.
 use Prim.Native.Nat.{ℕ, _≤_}
 use mathlib.Core.Path.{_≡_}
 use mathlib.Core.Logic.{_↔_}
-use mathlib.Core.List.{[], _∷_, map}
-use Rattle.octets.specs.Rows.{done, refused}
+use mathlib.Core.List.{List, [], _∷_}
+use lib.ListN.{length}
+use Rattle.octets.specs.Rows.{done, refused, ended}
 use Rattle.frame.specs.Layout.{Covers}
+use Rattle.frame.specs.Frame.{openFile, readRange}
 use Rattle.frame.specs.Single.{fileLengthOf, clearLengthOf}
-use Rattle.siv_gcm.specs.SivGcm.{sivGcm}
-use Rattle.name_spec.specs.Statements.{NamePoints}
+use Rattle.siv_gcm.specs.SivGcm.{sivGcm, KeySizes, codec}
+use Rattle.name_spec.specs.Names.{fullName, hashName, storedName}
+use Rattle.name_spec.specs.Calls.{writtenLengths}
 
--- The lengths of files, lengths that no file has, the chunks that cover two ranges, and two names. In a file of 32,769 bytes of cleartext
--- the range (32,767, 2) is covered by the chunks 0 and 1, and (32,768, 1) by chunk 1 alone. The last refused length would be that of
--- one byte over the limit.
+-- The length call gives l for a cleartext of n bytes.
+abbrev pub HasFileLength : ℕ → ℕ → Type 0
+HasFileLength n l = fileLengthOf sivGcm n ≡ done (l ∷ [])
+
+-- No file has l bytes: the length call, and under any keys of 32 bytes the file opener and every range read, give row 4.
+abbrev pub NoFileLength : ℕ → Type 0
+NoFileLength l =
+    (clearLengthOf sivGcm l ≡ refused 4)
+    × ((enc mac f out : List ℕ) → KeySizes enc mac → length f ≡ l
+    → (openFile (codec enc mac) f out ≡ ended (refused 4) out)
+    × ((from count : ℕ) → readRange (codec enc mac) f from count out ≡ ended (refused 4) out))
+
+-- In a file of two chunks, of 32,769 bytes of cleartext, chunk i covers a range.
+abbrev pub CoversOfTwo : ℕ → ℕ → ℕ → Type 0
+CoversOfTwo from count i = Covers sivGcm 32893 from count i
+
+-- A name of n bytes has a full name of l characters, for which `stored` is stored; a success returns these lengths.
+abbrev pub Stores : ℕ → ℕ → (List ℕ → List ℕ) → List ℕ → Type 0
+Stores n l stored lengths =
+    (enc mac id name : List ℕ) → length name ≡ n →
+    let f = fullName enc mac id name in
+    (length f ≡ l) × (storedName f ≡ stored f) × (writtenLengths (length f) ≡ lengths)
+
+-- Five lengths of files, three that no file has, the chunks that cover two ranges, and two names.
 abbrev pub TestPoints : Type 0
 TestPoints =
-    (map (fileLengthOf sivGcm) (0 ∷ 1 ∷ 32768 ∷ 32769 ∷ 16777216 ∷ [])
-    ≡ done (68 ∷ []) ∷ done (97 ∷ []) ∷ done (32864 ∷ []) ∷ done (32893 ∷ []) ∷ done (16791620 ∷ []) ∷ [])
-    × (map (clearLengthOf sivGcm) (67 ∷ 96 ∷ 32892 ∷ 69 ∷ 32865 ∷ 16791621 ∷ 16791649 ∷ [])
-    ≡ refused 4 ∷ refused 4 ∷ refused 4 ∷ refused 4 ∷ refused 4 ∷ refused 4 ∷ refused 4 ∷ [])
-    × ((i : ℕ) → Covers sivGcm 32893 32767 2 i ↔ (i ≤ 1))
-    × ((i : ℕ) → Covers sivGcm 32893 32768 1 i ↔ (i ≡ 1))
-    × NamePoints
+    HasFileLength 0 68
+    × HasFileLength 1 97
+    × HasFileLength 32768 32864
+    × HasFileLength 32769 32893
+    × HasFileLength 16777216 16791620
+    × NoFileLength 67
+    × NoFileLength 96
+    × NoFileLength 32892
+    × ((i : ℕ) → CoversOfTwo 32767 2 i ↔ (i ≤ 1))
+    × ((i : ℕ) → CoversOfTwo 32768 1 i ↔ (i ≡ 1))
+    × Stores 146 220 (λ f. f) (220 ∷ [])
+    × Stores 147 224 hashName (32 ∷ 224 ∷ [])
