@@ -2,7 +2,7 @@
 use octets::word::byte1;
 ghost use mathlib.Core.Path.{_≡_};
 ghost use Rattle.octets.specs.Words.{HasBytes};
-ghost use Rattle.aes_spec.specs.Field.{mul};
+ghost use Rattle.aes_spec.specs.Field.{mul, sboxRule};
 ghost use Rattle.aes_spec.specs.SBox.{sbox};
 ghost use Rattle.aes_spec.specs.RoundTable.{roundTable};
 
@@ -273,17 +273,18 @@ pub fn table() -> [u32; 256]
     ROUND_TABLE
 }
 
+// The word of a byte. Its S-box's entry is the rule's value.
 pub fn entry(t: &[u32; 256], x: u8) -> u32
     requires { ⌜ now t ≡ roundTable ⌝ }
-    ensures { λ r. ⌜ HasBytes r (mul 2 (sbox x)) (sbox x) (sbox x) (mul 3 (sbox x)) ⌝ }
+    ensures { λ r. ⌜ (HasBytes r (mul 2 (sbox x)) (sbox x) (sbox x) (mul 3 (sbox x))) × (sbox x ≡ sboxRule x) ⌝ }
 {
     t[x as usize]
 }
 
-// The S-box's entry, for the last round.
+// The S-box's entry, for the last round: the rule's value.
 pub fn sub(t: &[u32; 256], x: u8) -> u8
     requires { ⌜ now t ≡ roundTable ⌝ }
-    ensures { λ r. ⌜ r ≡ sbox x ⌝ }
+    ensures { λ r. ⌜ (r ≡ sbox x) × (r ≡ sboxRule x) ⌝ }
 {
     byte1(entry(t, x))
 }

@@ -47,10 +47,10 @@ returns c =
     let c3 = c2 .before .before in
     let x = c3 .before .before .before .args in
     column (b0 (x .a)) (b1 (x .b)) (b2 (x .c)) (b3 (x .d)) (x .k)
-    (subst (Entry (c3 .before .entry .result)) (c3 .before .before .byte0 .ensures) (c3 .before .entry .ensures))
-    (subst (Entry (c2 .before .entry2 .result)) (c2 .before .before .byte1 .ensures) (c2 .before .entry2 .ensures))
-    (subst (Entry (c1 .before .entry3 .result)) (c1 .before .before .byte2 .ensures) (c1 .before .entry3 .ensures))
-    (subst (Entry (c .before .entry4 .result)) (c .before .before .byte3 .ensures) (c .before .entry4 .ensures))
+    (subst (Entry (c3 .before .entry .result)) (c3 .before .before .byte0 .ensures) (c3 .before .entry .ensures .0))
+    (subst (Entry (c2 .before .entry2 .result)) (c2 .before .before .byte1 .ensures) (c2 .before .entry2 .ensures .0))
+    (subst (Entry (c1 .before .entry3 .result)) (c1 .before .before .byte2 .ensures) (c1 .before .entry3 .ensures .0))
+    (subst (Entry (c .before .entry4 .result)) (c .before .before .byte3 .ensures) (c .before .entry4 .ensures .0))
     (c2 .right8 .ensures) (c1 .right16 .ensures) (c .right24 .ensures)
 
 pub column-spec : {M : Type 1} → statement M

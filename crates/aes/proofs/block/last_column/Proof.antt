@@ -40,10 +40,10 @@ returns : tie.Need-returns
 returns c =
     let x = c .before .before .before .before .before .before .before .before .before .args in
     last-column (b0 (x .a)) (b1 (x .b)) (b2 (x .c)) (b3 (x .d)) (x .k) (renamed (c .join .ensures .1)
-    (c .before .before .before .before .before .before .before .sub .ensures ∙ ap sbox (c .before .before .before .before .before .before .before .before .byte0 .ensures))
-    (c .before .before .before .before .before .sub2 .ensures ∙ ap sbox (c .before .before .before .before .before .before .byte1 .ensures))
-    (c .before .before .before .sub3 .ensures ∙ ap sbox (c .before .before .before .before .byte2 .ensures))
-    (c .before .sub4 .ensures ∙ ap sbox (c .before .before .byte3 .ensures)))
+    (c .before .before .before .before .before .before .before .sub .ensures .0 ∙ ap sbox (c .before .before .before .before .before .before .before .before .byte0 .ensures))
+    (c .before .before .before .before .before .sub2 .ensures .0 ∙ ap sbox (c .before .before .before .before .before .before .byte1 .ensures))
+    (c .before .before .before .sub3 .ensures .0 ∙ ap sbox (c .before .before .before .before .byte2 .ensures))
+    (c .before .sub4 .ensures .0 ∙ ap sbox (c .before .before .byte3 .ensures)))
 
 pub last-column-spec : {M : Type 1} → statement M
 last-column-spec =
