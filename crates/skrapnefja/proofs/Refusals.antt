@@ -9,10 +9,10 @@ use Rattle.answer.specs.Meaning.{row}
 use Rattle.answer.proofs.Refusal.{the-type}
 use Rattle.answer.specs.declared.Refusal.{Refusal}
 use Rattle.answer.specs.declared.Refusal.the-variants.{KeyOrNonceSize, DirectoryId, NameSize, Length, Text, Range, Room, RepeatedNonce, Header, Chunk, HashName, SyntheticIv}
-use Rattle.skrapnefja.specs.Results.{lengthAfter, fullLengthAfter, atAfter}
+use Rattle.skrapnefja.specs.Results.{writtenAfter, fullLengthAfter, atAfter}
 
 -- any refusal leaves the lengths
-pub keeps-lengths : (x : Refusal) (n : ℕ) → (lengthAfter (row x) n ≡ n) × (fullLengthAfter (row x) n ≡ n)
+pub keeps-lengths : (x : Refusal) (n : ℕ) → (writtenAfter (row x) n ≡ n) × (fullLengthAfter (row x) n ≡ n)
 keeps-lengths KeyOrNonceSize n = (refl, refl)
 keeps-lengths DirectoryId n = (refl, refl)
 keeps-lengths NameSize n = (refl, refl)

@@ -8,12 +8,12 @@ use Rattle.name_spec.specs.Calls.{NameEnd}
 
 -- ---- the numbers, by what they were before
 
--- `length`: the length written on success; a refusal leaves it.
-abbrev pub lengthAfter : Outcome → ℕ → ℕ
-lengthAfter (done []) before = before
-lengthAfter (done (n ∷ lengths)) before = n
-lengthAfter (refused row) before = before
-lengthAfter (refusedAt row i) before = before
+-- `written`: the length written on success; a refusal leaves it.
+abbrev pub writtenAfter : Outcome → ℕ → ℕ
+writtenAfter (done []) before = before
+writtenAfter (done (n ∷ lengths)) before = n
+writtenAfter (refused row) before = before
+writtenAfter (refusedAt row i) before = before
 
 -- `full_length`: the length of a shortened name's full name, 0 for a name that is stored as it is; a refusal leaves it.
 abbrev pub fullLengthAfter : Outcome → ℕ → ℕ
@@ -34,27 +34,27 @@ atAfter (refusedAt row i) before = i
 pub record Result : Type 0 where
   pub returned : ℕ
   pub buffer : List ℕ
-  pub length : ℕ
+  pub written : ℕ
 
 abbrev pub result : ℕ → List ℕ → ℕ → Result
-result r b l = record { returned = r; buffer = b; length = l }
+result r b l = record { returned = r; buffer = b; written = l }
 
 unfoldable pub resultOf : End → ℕ → Result
-resultOf e l = result (number (e .outcome)) (e .buffer) (lengthAfter (e .outcome) l)
+resultOf e l = result (number (e .outcome)) (e .buffer) (writtenAfter (e .outcome) l)
 
 -- ---- a call that reads chunks
 
 pub record ChunkResult : Type 0 where
   pub returned : ℕ
   pub buffer : List ℕ
-  pub length : ℕ
+  pub written : ℕ
   pub at : ℕ
 
 abbrev pub chunkResult : ℕ → List ℕ → ℕ → ℕ → ChunkResult
-chunkResult r b l a = record { returned = r; buffer = b; length = l; at = a }
+chunkResult r b l a = record { returned = r; buffer = b; written = l; at = a }
 
 unfoldable pub chunkResultOf : End → ℕ → ℕ → ChunkResult
-chunkResultOf e l a = chunkResult (number (e .outcome)) (e .buffer) (lengthAfter (e .outcome) l) (atAfter (e .outcome) a)
+chunkResultOf e l a = chunkResult (number (e .outcome)) (e .buffer) (writtenAfter (e .outcome) l) (atAfter (e .outcome) a)
 
 -- ---- the name writer
 
@@ -62,12 +62,12 @@ pub record NameResult : Type 0 where
   pub returned : ℕ
   pub stored : List ℕ
   pub full : List ℕ
-  pub length : ℕ
+  pub written : ℕ
   pub full-length : ℕ
 
 abbrev pub nameResult : ℕ → List ℕ → List ℕ → ℕ → ℕ → NameResult
-nameResult r s f l m = record { returned = r; stored = s; full = f; length = l; full-length = m }
+nameResult r s f l m = record { returned = r; stored = s; full = f; written = l; full-length = m }
 
 unfoldable pub nameResultOf : NameEnd → ℕ → ℕ → NameResult
 nameResultOf e l m =
-    nameResult (number (e .outcome)) (e .stored) (e .full) (lengthAfter (e .outcome) l) (fullLengthAfter (e .outcome) m)
+    nameResult (number (e .outcome)) (e .stored) (e .full) (writtenAfter (e .outcome) l) (fullLengthAfter (e .outcome) m)

@@ -19,13 +19,13 @@ pub extern "C" fn skrapnefja_write_chunk(
     nonce: &[u8],
     cleartext: &[u8],
     out: &mut [u8],
-    length: &mut u64,
+    written: &mut u64,
 ) -> u32
-    ensures { λ r. ⌜ ((enc mac : List ℕ) → result r (now (out .exit)) (now (length .exit)) ≡ resultOf (writeChunk (codec enc mac) (headWith (now («header_nonce» .entry)) (now («content_key» .entry))) number (now (nonce .entry)) (now (cleartext .entry)) (now (out .entry))) (now (length .entry))) ⌝ }
+    ensures { λ r. ⌜ ((enc mac : List ℕ) → result r (now (out .exit)) (now (written .exit)) ≡ resultOf (writeChunk (codec enc mac) (headWith (now («header_nonce» .entry)) (now («content_key» .entry))) number (now (nonce .entry)) (now (cleartext .entry)) (now (out .entry))) (now (written .entry))) ⌝ }
 {
     end(
         write_chunk(content_key, header_nonce, number, nonce, cleartext, out),
-        length,
+        written,
     )
 }
 
@@ -37,14 +37,14 @@ pub extern "C" fn skrapnefja_open_chunk(
     number: u64,
     chunk: &[u8],
     out: &mut [u8],
-    length: &mut u64,
+    written: &mut u64,
     at: &mut u64,
 ) -> u32
-    ensures { λ r. ⌜ ((enc mac : List ℕ) → chunkResult r (now (out .exit)) (now (length .exit)) (now (at .exit)) ≡ chunkResultOf (openChunk (codec enc mac) (headWith (now («header_nonce» .entry)) (now («content_key» .entry))) number (now (chunk .entry)) (now (out .entry))) (now (length .entry)) (now (at .entry))) ⌝ }
+    ensures { λ r. ⌜ ((enc mac : List ℕ) → chunkResult r (now (out .exit)) (now (written .exit)) (now (at .exit)) ≡ chunkResultOf (openChunk (codec enc mac) (headWith (now («header_nonce» .entry)) (now («content_key» .entry))) number (now (chunk .entry)) (now (out .entry))) (now (written .entry)) (now (at .entry))) ⌝ }
 {
     end_at(
         open_chunk(content_key, header_nonce, number, chunk, out),
-        length,
+        written,
         at,
     )
 }

@@ -6,15 +6,15 @@ use answer::row_number;
 ghost use mathlib.Core.Path.{_≡_};
 ghost use Rattle.octets.specs.Rows.{number};
 ghost use Rattle.answer.specs.Meaning.{meaning, nameMeaning};
-ghost use Rattle.skrapnefja.specs.Results.{lengthAfter, fullLengthAfter, atAfter};
+ghost use Rattle.skrapnefja.specs.Results.{writtenAfter, fullLengthAfter, atAfter};
 
 // Ends a call that answers a length.
-pub fn end(answer: Answer, length: &mut u64) -> u32
-    ensures { λ r. ⌜ (r ≡ number (meaning answer)) × (now (length .exit) ≡ lengthAfter (meaning answer) (now (length .entry))) ⌝ }
+pub fn end(answer: Answer, written: &mut u64) -> u32
+    ensures { λ r. ⌜ (r ≡ number (meaning answer)) × (now (written .exit) ≡ writtenAfter (meaning answer) (now (written .entry))) ⌝ }
 {
     match answer {
         Answer::Done(n) => {
-            *length = n as u64;
+            *written = n as u64;
             0
         }
         Answer::Refused(refusal) => row_number(refusal),
@@ -33,25 +33,25 @@ fn name_chunk(answer: Answer, at: &mut u64)
 }
 
 // Ends a call that reads chunks.
-pub fn end_at(answer: Answer, length: &mut u64, at: &mut u64) -> u32
-    ensures { λ r. ⌜ (r ≡ number (meaning answer)) × (now (length .exit) ≡ lengthAfter (meaning answer) (now (length .entry))) × (now (at .exit) ≡ atAfter (meaning answer) (now (at .entry))) ⌝ }
+pub fn end_at(answer: Answer, written: &mut u64, at: &mut u64) -> u32
+    ensures { λ r. ⌜ (r ≡ number (meaning answer)) × (now (written .exit) ≡ writtenAfter (meaning answer) (now (written .entry))) × (now (at .exit) ≡ atAfter (meaning answer) (now (at .entry))) ⌝ }
 {
     name_chunk(answer, at);
-    end(answer, length)
+    end(answer, written)
 }
 
 // Ends the writing of a name.
-pub fn end_name(answer: NameAnswer, length: &mut u64, full_length: &mut u64) -> u32
-    ensures { λ r. ⌜ (r ≡ number (nameMeaning answer)) × (now (length .exit) ≡ lengthAfter (nameMeaning answer) (now (length .entry))) × (now («full_length» .exit) ≡ fullLengthAfter (nameMeaning answer) (now («full_length» .entry))) ⌝ }
+pub fn end_name(answer: NameAnswer, written: &mut u64, full_length: &mut u64) -> u32
+    ensures { λ r. ⌜ (r ≡ number (nameMeaning answer)) × (now (written .exit) ≡ writtenAfter (nameMeaning answer) (now (written .entry))) × (now («full_length» .exit) ≡ fullLengthAfter (nameMeaning answer) (now («full_length» .entry))) ⌝ }
 {
     match answer {
         NameAnswer::Plain(n) => {
-            *length = n as u64;
+            *written = n as u64;
             *full_length = 0;
             0
         }
         NameAnswer::Shortened(n, full) => {
-            *length = n as u64;
+            *written = n as u64;
             *full_length = full as u64;
             0
         }

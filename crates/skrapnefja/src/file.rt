@@ -20,9 +20,9 @@ pub extern "C" fn skrapnefja_write_file(
     chunk_nonces: &[u8],
     cleartext: &[u8],
     out: &mut [u8],
-    length: &mut u64,
+    written: &mut u64,
 ) -> u32
-    ensures { λ r. ⌜ result r (now (out .exit)) (now (length .exit)) ≡ resultOf (writeFile (codec (now (enc .entry)) (now (mac .entry))) (choice (now («header_nonce» .entry)) (now («content_key» .entry)) (now («chunk_nonces» .entry)) (now (cleartext .entry))) (now (out .entry))) (now (length .entry)) ⌝ }
+    ensures { λ r. ⌜ result r (now (out .exit)) (now (written .exit)) ≡ resultOf (writeFile (codec (now (enc .entry)) (now (mac .entry))) (choice (now («header_nonce» .entry)) (now («content_key» .entry)) (now («chunk_nonces» .entry)) (now (cleartext .entry))) (now (out .entry))) (now (written .entry)) ⌝ }
 {
     end(
         write_file(
@@ -34,7 +34,7 @@ pub extern "C" fn skrapnefja_write_file(
             cleartext,
             out,
         ),
-        length,
+        written,
     )
 }
 
@@ -45,12 +45,12 @@ pub extern "C" fn skrapnefja_open_file(
     mac: &[u8],
     file: &[u8],
     out: &mut [u8],
-    length: &mut u64,
+    written: &mut u64,
     at: &mut u64,
 ) -> u32
-    ensures { λ r. ⌜ chunkResult r (now (out .exit)) (now (length .exit)) (now (at .exit)) ≡ chunkResultOf (openFile (codec (now (enc .entry)) (now (mac .entry))) (now (file .entry)) (now (out .entry))) (now (length .entry)) (now (at .entry)) ⌝ }
+    ensures { λ r. ⌜ chunkResult r (now (out .exit)) (now (written .exit)) (now (at .exit)) ≡ chunkResultOf (openFile (codec (now (enc .entry)) (now (mac .entry))) (now (file .entry)) (now (out .entry))) (now (written .entry)) (now (at .entry)) ⌝ }
 {
-    end_at(open_file(enc, mac, file, out), length, at)
+    end_at(open_file(enc, mac, file, out), written, at)
 }
 
 // Reads count bytes of the cleartext of a file, from `from` on.
@@ -62,14 +62,14 @@ pub extern "C" fn skrapnefja_read_range(
     from: u64,
     count: u64,
     out: &mut [u8],
-    length: &mut u64,
+    written: &mut u64,
     at: &mut u64,
 ) -> u32
-    ensures { λ r. ⌜ chunkResult r (now (out .exit)) (now (length .exit)) (now (at .exit)) ≡ chunkResultOf (readRange (codec (now (enc .entry)) (now (mac .entry))) (now (file .entry)) from count (now (out .entry))) (now (length .entry)) (now (at .entry)) ⌝ }
+    ensures { λ r. ⌜ chunkResult r (now (out .exit)) (now (written .exit)) (now (at .exit)) ≡ chunkResultOf (readRange (codec (now (enc .entry)) (now (mac .entry))) (now (file .entry)) from count (now (out .entry))) (now (written .entry)) (now (at .entry)) ⌝ }
 {
     end_at(
         read_range(enc, mac, file, from as usize, count as usize, out),
-        length,
+        written,
         at,
     )
 }

@@ -15,11 +15,11 @@ pub extern "C" fn skrapnefja_write_header(
     nonce: &[u8],
     content_key: &[u8],
     out: &mut [u8],
-    length: &mut u64,
+    written: &mut u64,
 ) -> u32
-    ensures { λ r. ⌜ result r (now (out .exit)) (now (length .exit)) ≡ resultOf (writeHeader (codec (now (enc .entry)) (now (mac .entry))) (headWith (now (nonce .entry)) (now («content_key» .entry))) (now (out .entry))) (now (length .entry)) ⌝ }
+    ensures { λ r. ⌜ result r (now (out .exit)) (now (written .exit)) ≡ resultOf (writeHeader (codec (now (enc .entry)) (now (mac .entry))) (headWith (now (nonce .entry)) (now («content_key» .entry))) (now (out .entry))) (now (written .entry)) ⌝ }
 {
-    end(write_header(enc, mac, nonce, content_key, out), length)
+    end(write_header(enc, mac, nonce, content_key, out), written)
 }
 
 // Opens a header: writes its content key, 32 bytes.
@@ -29,9 +29,9 @@ pub extern "C" fn skrapnefja_open_header(
     mac: &[u8],
     header: &[u8],
     out: &mut [u8],
-    length: &mut u64,
+    written: &mut u64,
 ) -> u32
-    ensures { λ r. ⌜ result r (now (out .exit)) (now (length .exit)) ≡ resultOf (openHeader (codec (now (enc .entry)) (now (mac .entry))) (now (header .entry)) (now (out .entry))) (now (length .entry)) ⌝ }
+    ensures { λ r. ⌜ result r (now (out .exit)) (now (written .exit)) ≡ resultOf (openHeader (codec (now (enc .entry)) (now (mac .entry))) (now (header .entry)) (now (out .entry))) (now (written .entry)) ⌝ }
 {
-    end(open_header(enc, mac, header, out), length)
+    end(open_header(enc, mac, header, out), written)
 }

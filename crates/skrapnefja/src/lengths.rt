@@ -11,16 +11,16 @@ ghost use Rattle.skrapnefja.specs.Results.{result, resultOf};
 
 // The length of the file of a cleartext of this length.
 #[no_mangle]
-pub extern "C" fn skrapnefja_file_length(cleartext_length: u64, length: &mut u64) -> u32
-    ensures { λ r. ⌜ result r [] (now (length .exit)) ≡ resultOf (ended (fileLengthOf sivGcm «cleartext_length») []) (now (length .entry)) ⌝ }
+pub extern "C" fn skrapnefja_file_length(cleartext_length: u64, written: &mut u64) -> u32
+    ensures { λ r. ⌜ result r [] (now (written .exit)) ≡ resultOf (ended (fileLengthOf sivGcm «cleartext_length») []) (now (written .entry)) ⌝ }
 {
-    end(file_length(cleartext_length as usize), length)
+    end(file_length(cleartext_length as usize), written)
 }
 
 // The length of the cleartext of a file of this length.
 #[no_mangle]
-pub extern "C" fn skrapnefja_cleartext_length(file_length: u64, length: &mut u64) -> u32
-    ensures { λ r. ⌜ result r [] (now (length .exit)) ≡ resultOf (ended (clearLengthOf sivGcm «file_length») []) (now (length .entry)) ⌝ }
+pub extern "C" fn skrapnefja_cleartext_length(file_length: u64, written: &mut u64) -> u32
+    ensures { λ r. ⌜ result r [] (now (written .exit)) ≡ resultOf (ended (clearLengthOf sivGcm «file_length») []) (now (written .entry)) ⌝ }
 {
-    end(cleartext_length(file_length as usize), length)
+    end(cleartext_length(file_length as usize), written)
 }

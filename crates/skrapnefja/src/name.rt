@@ -18,14 +18,14 @@ pub extern "C" fn skrapnefja_write_name(
     name: &[u8],
     stored: &mut [u8],
     full: &mut [u8],
-    length: &mut u64,
+    written: &mut u64,
     full_length: &mut u64,
 ) -> u32
-    ensures { λ r. ⌜ nameResult r (now (stored .exit)) (now (full .exit)) (now (length .exit)) (now («full_length» .exit)) ≡ nameResultOf (writeName (now (enc .entry)) (now (mac .entry)) (now («dir_id» .entry)) (now (name .entry)) (now (stored .entry)) (now (full .entry))) (now (length .entry)) (now («full_length» .entry)) ⌝ }
+    ensures { λ r. ⌜ nameResult r (now (stored .exit)) (now (full .exit)) (now (written .exit)) (now («full_length» .exit)) ≡ nameResultOf (writeName (now (enc .entry)) (now (mac .entry)) (now («dir_id» .entry)) (now (name .entry)) (now (stored .entry)) (now (full .entry))) (now (written .entry)) (now («full_length» .entry)) ⌝ }
 {
     end_name(
         write_name(enc, mac, dir_id, name, stored, full),
-        length,
+        written,
         full_length,
     )
 }
@@ -38,11 +38,11 @@ pub extern "C" fn skrapnefja_open_name(
     dir_id: &[u8],
     stored: &[u8],
     out: &mut [u8],
-    length: &mut u64,
+    written: &mut u64,
 ) -> u32
-    ensures { λ r. ⌜ result r (now (out .exit)) (now (length .exit)) ≡ resultOf (openName (now (enc .entry)) (now (mac .entry)) (now («dir_id» .entry)) (now (stored .entry)) (now (out .entry))) (now (length .entry)) ⌝ }
+    ensures { λ r. ⌜ result r (now (out .exit)) (now (written .exit)) ≡ resultOf (openName (now (enc .entry)) (now (mac .entry)) (now («dir_id» .entry)) (now (stored .entry)) (now (out .entry))) (now (written .entry)) ⌝ }
 {
-    end(open_name(enc, mac, dir_id, stored, out), length)
+    end(open_name(enc, mac, dir_id, stored, out), written)
 }
 
 // Opens a shortened name: what is stored, and its full name.
@@ -54,11 +54,11 @@ pub extern "C" fn skrapnefja_open_long_name(
     stored: &[u8],
     full: &[u8],
     out: &mut [u8],
-    length: &mut u64,
+    written: &mut u64,
 ) -> u32
-    ensures { λ r. ⌜ result r (now (out .exit)) (now (length .exit)) ≡ resultOf (openLongName (now (enc .entry)) (now (mac .entry)) (now («dir_id» .entry)) (now (stored .entry)) (now (full .entry)) (now (out .entry))) (now (length .entry)) ⌝ }
+    ensures { λ r. ⌜ result r (now (out .exit)) (now (written .exit)) ≡ resultOf (openLongName (now (enc .entry)) (now (mac .entry)) (now («dir_id» .entry)) (now (stored .entry)) (now (full .entry)) (now (out .entry))) (now (written .entry)) ⌝ }
 {
-    end(open_long_name(enc, mac, dir_id, stored, full, out), length)
+    end(open_long_name(enc, mac, dir_id, stored, full, out), written)
 }
 
 // Writes the path of the directory with this ID: 36 characters.
@@ -68,9 +68,9 @@ pub extern "C" fn skrapnefja_dir_path(
     mac: &[u8],
     dir_id: &[u8],
     out: &mut [u8],
-    length: &mut u64,
+    written: &mut u64,
 ) -> u32
-    ensures { λ r. ⌜ result r (now (out .exit)) (now (length .exit)) ≡ resultOf (dirPath (now (enc .entry)) (now (mac .entry)) (now («dir_id» .entry)) (now (out .entry))) (now (length .entry)) ⌝ }
+    ensures { λ r. ⌜ result r (now (out .exit)) (now (written .exit)) ≡ resultOf (dirPath (now (enc .entry)) (now (mac .entry)) (now («dir_id» .entry)) (now (out .entry))) (now (written .entry)) ⌝ }
 {
-    end(dir_path(enc, mac, dir_id, out), length)
+    end(dir_path(enc, mac, dir_id, out), written)
 }

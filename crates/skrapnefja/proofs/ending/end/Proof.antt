@@ -1,10 +1,10 @@
--- `end`: a success writes its length, and a refusal leaves `length`.
+-- `end`: a success writes its length, and a refusal leaves `written`.
 -- Assumes nothing.
 use borrow.Author.Needs.{needs}
 use mathlib.Core.Path.{sym, ap, _∙_}
 use Rattle.octets.specs.Rows.{number}
 use Rattle.answer.specs.Meaning.{meaning}
-use Rattle.skrapnefja.specs.Results.{lengthAfter}
+use Rattle.skrapnefja.specs.Results.{writtenAfter}
 use Rattle.skrapnefja.proofs.Refusals.{keeps-lengths}
 use Rattle.answer.specs.declared.Answer.{Answer}
 use Rattle.skrapnefja.proofs.ending.end.Statement.{statement}
@@ -27,7 +27,7 @@ returns-2 c =
     let x = c .before .before .before .before .args in
     let e = c .before .before .answer2 .given .1 in (
       c .row-number .ensures ∙ sym (ap (λ (a : Answer). number (meaning a)) e),
-      sym (ap (λ (a : Answer). lengthAfter (meaning a) (x .length .now)) e ∙ keeps-lengths (c .before .before .answer2 .given .0 .0) (x .length .now) .0),
+      sym (ap (λ (a : Answer). writtenAfter (meaning a) (x .written .now)) e ∙ keeps-lengths (c .before .before .answer2 .given .0 .0) (x .written .now) .0),
     )
 
 pub end-spec : {M : Type 1} → statement M

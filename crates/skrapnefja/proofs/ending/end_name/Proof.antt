@@ -4,7 +4,7 @@ use borrow.Author.Needs.{needs}
 use mathlib.Core.Path.{sym, ap, _∙_}
 use Rattle.octets.specs.Rows.{number}
 use Rattle.answer.specs.Meaning.{nameMeaning}
-use Rattle.skrapnefja.specs.Results.{lengthAfter, fullLengthAfter}
+use Rattle.skrapnefja.specs.Results.{writtenAfter, fullLengthAfter}
 use Rattle.skrapnefja.proofs.Refusals.{keeps-lengths}
 use Rattle.answer.specs.declared.NameAnswer.{NameAnswer}
 use Rattle.skrapnefja.proofs.ending.end_name.Statement.{statement}
@@ -34,7 +34,7 @@ returns-3 c =
     let refusal = c .before .before .answer3 .given .0 .0 in
     let e = c .before .before .answer3 .given .1 in (
       c .row-number .ensures ∙ sym (ap (λ (a : NameAnswer). number (nameMeaning a)) e),
-      sym (ap (λ (a : NameAnswer). lengthAfter (nameMeaning a) (x .length .now)) e ∙ keeps-lengths refusal (x .length .now) .0),
+      sym (ap (λ (a : NameAnswer). writtenAfter (nameMeaning a) (x .written .now)) e ∙ keeps-lengths refusal (x .written .now) .0),
       sym (ap (λ (a : NameAnswer). fullLengthAfter (nameMeaning a) (x .full-length .now)) e ∙ keeps-lengths refusal (x .full-length .now) .1),
     )
 

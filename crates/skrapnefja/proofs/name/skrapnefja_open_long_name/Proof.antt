@@ -17,7 +17,7 @@ same-length c = search needs
 returns : tie.Need-returns
 returns c =
     let x = c .before .before .before .before .before .before .before .before .before .before .before .before .args in
-    joined (x .length .now) (c .before .before .before .before .open-long-name .ensures) (c .end .ensures)
+    joined (x .written .now) (c .before .before .before .before .open-long-name .ensures) (c .end .ensures)
 
 pub skrapnefja-open-long-name-spec : {M : Type 1} → statement M
 skrapnefja-open-long-name-spec =

@@ -20,7 +20,7 @@ same-length-2 c = search needs
 returns : tie.Need-returns
 returns c =
     let x = c .before .before .before .before .before .before .before .before .before .before .before .before .before .before .before .before .args in
-    joined-name (x .length .now) (x .full-length .now) (c .before .before .before .before .before .before .before .write-name .ensures) (c .end-name .ensures)
+    joined-name (x .written .now) (x .full-length .now) (c .before .before .before .before .before .before .before .write-name .ensures) (c .end-name .ensures)
 
 pub skrapnefja-write-name-spec : {M : Type 1} → statement M
 skrapnefja-write-name-spec =
