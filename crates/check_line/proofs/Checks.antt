@@ -1,14 +1,13 @@
 -- With room for the input row 7 is never given, the room doesn't change the outcome, and the line is short.
 -- Assumes nothing.
 use mathlib.Core.Path.{_≡_, refl, ap}
-use mathlib.Core.Bool.{Bool, true, false, cond, _||_}
+use mathlib.Core.Bool.{Bool, true, false, cond}
 use mathlib.Core.List.{List, [], _∷_, _++_}
 use Prim.Native.Nat.{ℕ, _+_, _-_, _≤_, _<_}
 use native.Mathlib.Omega.{arith}
 use borrow.Author.Tests.{le-ltb, ltb-true, ltb-false}
 use lib.Dec.{ltb, lit≤}
 use lib.ListN.{length, take, drop, replicate, length-append, length-drop, length-replicate}
-use Rattle.octets.specs.Bytes.{placed}
 use Rattle.octets.specs.Rows.{Outcome, done, refused, refusedAt, Row, answer, number, End, ended}
 use Rattle.frame.specs.Layout.{chunks, clearLength}
 use Rattle.frame.specs.Frame.{openRows, openFile, badChunk}
@@ -148,12 +147,4 @@ line-fits input =
 -- what a call writes
 pub written-fits : (n : ℕ) (r l input room line : List ℕ) → checked n r l ≡ check input room line → n ≤ longest
 unfolding check
-written-fits n r l input room line e =
-    let h = go (ltb (length room) (length input) || ltb (length line) longest) (line-fits input) in
-    let k = ap (λ (x : Checked). x .written) e in
-    omega arith
-  where
-    go : (b : Bool) → length (checkLine input) ≤ longest
-        → cond b (checked 0 room line) (checked (length (checkLine input)) (checkVault input room .buffer) (placed (checkLine input) 0 line)) .written ≤ longest
-    go true h = omega arith
-    go false h = h
+written-fits n r l input room line e = omega (arith, ap (λ (x : Checked). x .written) e, line-fits input)

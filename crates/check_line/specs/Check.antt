@@ -1,6 +1,6 @@
 -- The check of a vault file: its input, the line that it gives, and what the buffers hold afterwards.
 -- Assumes nothing.
-use mathlib.Core.Bool.{cond, _||_}
+use mathlib.Core.Bool.{cond}
 use mathlib.Core.List.{List}
 use Prim.Native.Nat.{ℕ}
 use lib.Dec.{ltb}
@@ -36,9 +36,8 @@ pub record Checked : Type 0 where
 abbrev pub checked : ℕ → List ℕ → List ℕ → Checked
 checked n r l = record { written = n; room = r; line = l }
 
--- What checking the input leaves: the line at the front of `line`, and in `room` the cleartext, if the file opens. Where `room` is shorter than
--- the input, or `line` than the longest line, nothing is written.
+-- What checking the input leaves, where `room` is no shorter than the input, and `line` no shorter than the longest line: the line at the
+-- front of `line`, and in `room` the cleartext, if the file opens.
 unfoldable pub check : List ℕ → List ℕ → List ℕ → Checked
 check input room line =
-    cond (ltb (length room) (length input) || ltb (length line) longest) (checked 0 room line)
-    (checked (length (checkLine input)) (checkVault input room .buffer) (placed (checkLine input) 0 line))
+    checked (length (checkLine input)) (checkVault input room .buffer) (placed (checkLine input) 0 line)

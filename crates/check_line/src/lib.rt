@@ -1,15 +1,17 @@
 // The line that tells how the check of a vault file ends.
-pub mod decimal;
-pub mod line;
+mod decimal;
+mod line;
 
 use crate::line::write_line;
 use answer::Answer;
 use answer::Refusal;
 use file_read::open_file;
 ghost use mathlib.Core.Path.{_≡_};
+ghost use Prim.Native.Nat.{_≤_};
+ghost use lib.ListN.{length};
 ghost use Rattle.octets.specs.Rows.{ended};
 ghost use Rattle.answer.specs.Meaning.{meaning};
-ghost use Rattle.check_line.specs.Check.{checkVault, checked, check};
+ghost use Rattle.check_line.specs.Check.{checkVault, longest, checked, check};
 
 // Opens the file behind its keys into room.
 fn check_vault(input: &[u8], room: &mut [u8]) -> Answer
@@ -28,16 +30,11 @@ fn check_vault(input: &[u8], room: &mut [u8]) -> Answer
 }
 
 /// Checks the input, the encryption master key, the MAC master key and a file: writes the line that tells the outcome, and returns its length.
-/// The cleartext goes into room, which must be at least as long as the input, and line must have at least 25 bytes; else nothing is written, and 0 is returned.
+/// The cleartext goes into room, which is at least as long as the input; line has the 25 bytes of the longest line.
 pub fn check_line(input: &[u8], room: &mut [u8], line: &mut [u8]) -> usize
+    requires { ⌜ (length (now input) ≤ length (now room)) × (longest ≤ length (now line)) ⌝ }
     ensures { λ r. ⌜ checked r (now (room .exit)) (now (line .exit)) ≡ check (now (input .entry)) (now (room .entry)) (now (line .entry)) ⌝ }
 {
-    if room.len() < input.len() {
-        return 0;
-    }
-    if line.len() < 25 {
-        return 0;
-    }
     let answer = check_vault(input, room);
     write_line(answer, line)
 }

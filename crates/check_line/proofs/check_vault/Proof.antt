@@ -23,7 +23,7 @@ returns-2 : tie.Need-returns-2
 unfolding checkVault
 returns-2 c =
     let n = length (c .before .before .before .before .args .input .now) in
-    rw (le-ltb n 64 (c .before .if1 .left), lt-ltb 65536 n (c .if2 .taken))
+    rw (le-ltb n 64 (c .before .if1 .left), lt-ltb 65536 n (omega (arith, c .if2 .taken)))
 
 slice-aggregate-enc : tie.Need-slice-aggregate-enc
 slice-aggregate-enc c = sym (length-take-le 32 (c .before .before .before .before .before .args .input .now) (omega (arith, c .before .before .if1 .left)))
@@ -57,7 +57,7 @@ unfolding checkVault
 returns-3 c =
     let x = c .before .before .before .before .before .before .before .before .before .before .before .args in
     let n = length (x .input .now) in
-    rw (le-ltb n 64 (c .before .before .before .before .before .before .before .before .if1 .left), le-ltb 65536 n (c .before .before .before .before .before .before .before .if2 .left))
+    rw (le-ltb n 64 (c .before .before .before .before .before .before .before .before .if1 .left), le-ltb 65536 n (omega (arith, c .before .before .before .before .before .before .before .if2 .left)))
     (c .before .before .open-file .ensures
     ∙ ap (λ (f : List ℕ). openFile (codec (take 32 (x .input .now)) (take 32 (drop 32 (x .input .now)))) f (x .room .now)) (part-rest (x .input .now) n 64 refl))
 
