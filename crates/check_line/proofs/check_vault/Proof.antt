@@ -17,7 +17,7 @@ use Rattle.check_line.proofs.check_vault.Tie as tie
 
 returns : tie.Need-returns
 unfolding checkVault
-returns c = rw (lt-ltb (length (c .before .before .before .args .input .now)) 64 (c .if1 .taken))
+returns c = rw (lt-ltb (length (c .before .before .before .args .input .now)) 64 (c .if1 .taken)) refl
 
 returns-2 : tie.Need-returns-2
 unfolding checkVault
