@@ -43,7 +43,7 @@ enum skrapnefja_row {
     SKRAPNEFJA_REPEATED_NONCE = 8,    /* two chunk nonces of a file to write are equal */
     SKRAPNEFJA_HEADER = 9,            /* the header's tag is wrong, or its eight reserved bytes are not all 255 */
     SKRAPNEFJA_CHUNK = 10,            /* the tag of a chunk that is needed is wrong; `at` is the lowest such chunk's number */
-    SKRAPNEFJA_HASH_NAME = 11,        /* the full name has 220 characters or fewer, or the stored name isn't its hash */
+    SKRAPNEFJA_HASH_NAME = 11,        /* the full name has 220 characters or fewer, or the stored name isn't its hash name */
     SKRAPNEFJA_SYNTHETIC_IV = 12      /* the name's synthetic IV doesn't match, as other keys, another directory or damage can cause */
 };
 

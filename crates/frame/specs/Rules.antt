@@ -71,7 +71,7 @@ module _ (C : Codec) (Keys : Type 0) where
       ∷ (NoncesDiffer z c, refused 8)
       ∷ []
 
-  -- opening the file f: row 10 asks for the tag of every chunk, and returns the number that `RowTen` and `OpeningIsReading` fix
+  -- opening the file f: row 10 asks for the tag of every chunk; its number is that of the range read, by `OpeningIsReading`
   abbrev pub openFileRules : List ℕ → ℕ → List Rule
   openFileRules f room =
       let n = clearLength z (length f) in
@@ -82,7 +82,8 @@ module _ (C : Codec) (Keys : Type 0) where
       ∷ ((i : ℕ) → i < chunks n → good (headIn C f) i (chunkAt z f i) ≡ true, refusedAt 10 (badChunk C f 0 n))
       ∷ []
 
-  -- reading count bytes of f from `from` on: row 10 asks for the tag of every covering chunk, and of none where count is 0
+  -- reading count bytes of f from `from` on: row 10 asks for the tag of every covering chunk, and of none where count is 0; `RowTen` fixes its
+  -- number
   abbrev pub readRangeRules : List ℕ → ℕ → ℕ → ℕ → List Rule
   readRangeRules f from count room =
       (Keys, refused 1)

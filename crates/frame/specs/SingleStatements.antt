@@ -18,7 +18,7 @@ LengthsExactly z =
     ((n : ℕ) → AnswersBy (fileLengthRules n) (fileLength z n ∷ []) (fileLengthOf z n))
     × ((l : ℕ) → AnswersBy (clearLengthRules z l) (clearLength z l ∷ []) (clearLengthOf z l))
 
--- Their numbers ascend.
+-- The numbers of their rules ascend.
 abbrev pub LengthsAscend : Sizes → Type 0
 LengthsAscend z = ((n : ℕ) → Ascending (fileLengthRules n)) × ((l : ℕ) → Ascending (clearLengthRules z l))
 
@@ -53,26 +53,26 @@ module _ (C : Codec) where
       ((h : Head) → HeadFits z h → Bytes (headerOf h))
       × ((h : Head) (i : ℕ) (n p : List ℕ) → HeadFits z h → Bytes n → Bytes p → Bytes (chunkOf h i n p))
 
-  -- The header writer succeeds exactly when the keys and the nonce have their sizes and there is room.
+  -- Lent byte strings, the header writer succeeds exactly when the keys and the nonce have their sizes and there is room.
   abbrev pub HeaderWritesExactly : Type 0 → Type 0
   HeaderWritesExactly Keys =
       (h : Head) (out : List ℕ) → Bytes (h .nonce) → Bytes (h .key) → Succeeded (writeHeader C h out) ↔ (Keys × HeadFits z h × (z .header ≤ length out))
 
-  -- And then, under keys that have their sizes, it writes the header, which opens to the content key that went in.
+  -- And then it writes the header, which opens to the content key that went in. (That the keys have their sizes is asked for where this is cited.)
   abbrev pub HeaderWrittenOpens : Type 0
   HeaderWrittenOpens =
       (h : Head) (out into : List ℕ) → HeadFits z h → z .header ≤ length out → keySize ≤ length into
       → (writeHeader C h out ≡ ended (done (length (headerOf h) ∷ [])) (filled (headerOf h) (length (headerOf h)) out))
       × (openHeader C (headerOf h) into ≡ ended (done (keySize ∷ [])) (filled (h .key) keySize into))
 
-  -- Given room, if the size is right, a byte string opens as a header exactly when it is the header of some nonce and content key; and then to that content key.
+  -- Given room, which is asked for only where the size is right, a byte string opens as a header exactly when it is the header of some nonce and content key; and then to that content key.
   abbrev pub HeaderOpensExactly : Type 0
   HeaderOpensExactly =
       (b out : List ℕ) → Bytes b → (length b ≡ z .header → keySize ≤ length out)
       → (Succeeded (openHeader C b out) ↔ ((h : Head) × HeadFits z h × (headerOf h ≡ b)))
       × ((h : Head) → HeadFits z h → headerOf h ≡ b → openHeader C b out ≡ ended (done (keySize ∷ [])) (filled (h .key) keySize out))
 
-  -- The chunk writer succeeds exactly when the content key, the nonces and the cleartext have their sizes and there is room.
+  -- Lent byte strings, the chunk writer succeeds exactly when the content key, the nonces and the cleartext have their sizes and there is room.
   abbrev pub ChunkWritesExactly : Type 0
   ChunkWritesExactly =
       (h : Head) (i : ℕ) (n p out : List ℕ) → Bytes (h .nonce) → Bytes (h .key) → Bytes n → Bytes p
@@ -85,7 +85,7 @@ module _ (C : Codec) where
       → (writeChunk C h i n p out ≡ ended (done (length (chunkOf h i n p) ∷ [])) (filled (chunkOf h i n p) (length (chunkOf h i n p)) out))
       × (openChunk C h i (chunkOf h i n p) into ≡ ended (done (length p ∷ [])) (filled p (length p) into))
 
-  -- Given room, if it is no longer than a chunk, a byte string opens as chunk i exactly when it is chunk i of some nonce and cleartext; and then to that cleartext.
+  -- Given room, which is asked for only where it is no longer than a chunk, a byte string opens as chunk i exactly when it is chunk i of some nonce and cleartext; and then to that cleartext.
   abbrev pub ChunkOpensExactly : Type 0
   ChunkOpensExactly =
       (h : Head) (i : ℕ) (c out : List ℕ) → HeadFits z h → Bytes c → (length c ≤ stored z → length c - z .overhead ≤ length out)

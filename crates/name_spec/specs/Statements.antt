@@ -13,7 +13,7 @@ use Rattle.siv.specs.Siv.{s2v}
 use Rattle.encoding.specs.Base64url as base64url
 use Rattle.siv_gcm.specs.SivGcm.{KeySizes}
 use Rattle.name_spec.specs.Names.{fullEnd, path, fullName, fullLength, hashName, short, storedName, nameLength, nameOf}
-use Rattle.name_spec.specs.Calls.{pathLength, hashLength, storedLength, writtenLengths, NameEnd, nameEnded, dirPath, writeName, openName, openLongName}
+use Rattle.name_spec.specs.Calls.{pathLength, storedLength, writtenLengths, NameEnd, nameEnded, dirPath, writeName, openName, openLongName}
 use Rattle.name_spec.specs.Rules.{IdFits, NameSize, TextForm, NameRoom, dirPathRules, writeNameRules, openNameRules, openLongNameRules}
 
 -- A name of 1 to 255 bytes.
@@ -73,7 +73,7 @@ module _ (enc mac id : List ℕ) where
       → (Succeeded (dirPath enc mac id out) ↔ (KeySizes enc mac × IdFits id × (36 ≤ length out)))
       × (KeySizes enc mac → IdFits id → 36 ≤ length out → dirPath enc mac id out ≡ ended (done (length (path enc mac id) ∷ [])) (filled (path enc mac id) (length (path enc mac id)) out))
 
-  -- A name is written exactly when the keys, the directory ID and the name fit and there is room.
+  -- A name, a byte string, is written exactly when the keys, the directory ID and the name fit and there is room.
   abbrev pub NameWritesExactly : Type 0
   NameWritesExactly =
       (name stored full : List ℕ) → Bytes name
@@ -94,7 +94,7 @@ module _ (enc mac id : List ℕ) where
       → (e ≡ nameEnded (done (length (hashName f) ∷ length f ∷ [])) (filled (hashName f) (length (hashName f)) stored) (filled f (length f) full))
       × (openLongName enc mac id (hashName f) f into ≡ opened))
 
-  -- Given room, where the text form and the length are right, a text opens exactly when it has at most 220 characters and is the full name
+  -- Given room, which is asked for only where the text form and the length are right, a text opens exactly when it has at most 220 characters and is the full name
   -- of some name in this directory; and then to that name.
   abbrev pub NameOpensExactly : Type 0
   NameOpensExactly =
@@ -103,7 +103,7 @@ module _ (enc mac id : List ℕ) where
       × ((name : List ℕ) → NameFits name → fullName enc mac id name ≡ t → length t ≤ 220
       → openName enc mac id t out ≡ ended (done (length name ∷ [])) (filled name (length name) out))
 
-  -- Given room, where the text form is right, a stored name and a full name open exactly when the full name has more than 220 characters and is that of some name in this
+  -- Given room, which is asked for only where the text form is right, a stored name and a full name open exactly when the full name has more than 220 characters and is that of some name in this
   -- directory, and the stored name is its hash name; and then to that name.
   abbrev pub LongNameOpensExactly : Type 0
   LongNameOpensExactly =

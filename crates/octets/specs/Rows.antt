@@ -23,42 +23,11 @@ unfoldable pub answer : List Row → Outcome → Outcome
 answer [] last = last
 answer (r ∷ rows) last = cond (r .0) (r .1) (answer rows last)
 
--- The row at place k of the list, from 0, applies, and none before it does.
-abbrev pub First : List Row → ℕ → Type 0
-First [] k = ⊥
-First (r ∷ rows) zero = r .0 ≡ true
-First (r ∷ rows) (suc k) = (r .0 ≡ false) × First rows k
-
--- No row applies.
-abbrev pub NoRow : List Row → Type 0
-NoRow [] = Unit {0}
-NoRow (r ∷ rows) = (r .0 ≡ false) × NoRow rows
-
--- What the row at place k answers; `last` past the end.
-abbrev pub outcomeAt : List Row → Outcome → ℕ → Outcome
-outcomeAt [] last k = last
-outcomeAt (r ∷ rows) last zero = r .1
-outcomeAt (r ∷ rows) last (suc k) = outcomeAt rows last k
-
 -- The row number of an outcome, 0 for a success.
 abbrev pub number : Outcome → ℕ
 number (done lengths) = 0
 number (refused row) = row
 number (refusedAt row at) = row
-
--- No row has the number m.
-abbrev pub without : ℕ → List Row → Bool
-without m [] = true
-without m (r ∷ rows) = not (eqb (number (r .1)) m) && without m rows
-
--- No two rows have the same number.
-abbrev pub distinct : List Row → Bool
-distinct [] = true
-distinct (r ∷ rows) = without (number (r .1)) rows && distinct rows
-
--- No two rows have the same number, and none the number 0.
-abbrev pub numbered : List Row → Bool
-numbered rows = without 0 rows && distinct rows
 
 -- What a call with one buffer ends in: its answer, and what the buffer holds afterwards.
 pub record End : Type 0 where
@@ -82,20 +51,6 @@ ending o new old = ended o (leaves o new old)
 -- A call succeeded.
 abbrev pub Succeeded : End → Type 0
 Succeeded e = (lengths : List ℕ) × (e .outcome ≡ done lengths)
-
--- The answer is that of the row at place k exactly when that row applies and none before it does; it is a success exactly when no row applies.
-abbrev pub AnswerExactly : List Row → Type 0
-AnswerExactly rows =
-    (l : List ℕ)
-    → ((k : ℕ) → k < length rows → (answer rows (done l) ≡ outcomeAt rows (done l) k) ↔ First rows k)
-    × ((answer rows (done l) ≡ done l) ↔ NoRow rows)
-
--- A call's end goes by its rows: it has the answer of the row at place k, and the buffer as it was, exactly when that row
--- applies and none before it does; and it is done with the lengths l, and `new` in the buffer, exactly when no row applies.
-abbrev pub EndsExactly : List Row → List ℕ → List ℕ → List ℕ → End → Type 0
-EndsExactly rows l new old e =
-    ((k : ℕ) → k < length rows → (e ≡ ended (outcomeAt rows (done l) k) old) ↔ First rows k)
-    × ((e ≡ ended (done l) new) ↔ NoRow rows)
 
 -- A rule: what a row asks for, in words, and what is answered where that is not met.
 abbrev pub Rule : Type 1
@@ -124,3 +79,50 @@ above n (r ∷ rules) = ltb n (number (r .1)) && above (number (r .1)) rules
 -- The numbers of the rules ascend: where a call goes by them, the lowest of the rows that apply is given.
 abbrev pub Ascending : List Rule → Type 0
 Ascending rules = above 0 rules ≡ true
+
+-- ---- for proofs: a call by its own list of rows
+
+-- The row at place k of the list, from 0, applies, and none before it does.
+abbrev pub First : List Row → ℕ → Type 0
+First [] k = ⊥
+First (r ∷ rows) zero = r .0 ≡ true
+First (r ∷ rows) (suc k) = (r .0 ≡ false) × First rows k
+
+-- No row applies.
+abbrev pub NoRow : List Row → Type 0
+NoRow [] = Unit {0}
+NoRow (r ∷ rows) = (r .0 ≡ false) × NoRow rows
+
+-- What the row at place k answers; `last` past the end.
+abbrev pub outcomeAt : List Row → Outcome → ℕ → Outcome
+outcomeAt [] last k = last
+outcomeAt (r ∷ rows) last zero = r .1
+outcomeAt (r ∷ rows) last (suc k) = outcomeAt rows last k
+
+-- No row has the number m.
+abbrev pub without : ℕ → List Row → Bool
+without m [] = true
+without m (r ∷ rows) = not (eqb (number (r .1)) m) && without m rows
+
+-- No two rows have the same number.
+abbrev pub distinct : List Row → Bool
+distinct [] = true
+distinct (r ∷ rows) = without (number (r .1)) rows && distinct rows
+
+-- No two rows have the same number, and none the number 0.
+abbrev pub numbered : List Row → Bool
+numbered rows = without 0 rows && distinct rows
+
+-- The answer is that of the row at place k exactly when that row applies and none before it does; it is a success exactly when no row applies.
+abbrev pub AnswerExactly : List Row → Type 0
+AnswerExactly rows =
+    (l : List ℕ)
+    → ((k : ℕ) → k < length rows → (answer rows (done l) ≡ outcomeAt rows (done l) k) ↔ First rows k)
+    × ((answer rows (done l) ≡ done l) ↔ NoRow rows)
+
+-- A call's end goes by its rows: it has the answer of the row at place k, and the buffer as it was, exactly when that row
+-- applies and none before it does; and it is done with the lengths l, and `new` in the buffer, exactly when no row applies.
+abbrev pub EndsExactly : List Row → List ℕ → List ℕ → List ℕ → End → Type 0
+EndsExactly rows l new old e =
+    ((k : ℕ) → k < length rows → (e ≡ ended (outcomeAt rows (done l) k) old) ↔ First rows k)
+    × ((e ≡ ended (done l) new) ↔ NoRow rows)

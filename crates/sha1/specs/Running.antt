@@ -27,6 +27,6 @@ Running t m = After initial m (length m) t
 abbrev pub Updated : Sha1 → List ℕ → Sha1 → Type 0
 Updated t s r = After (t .words) (unhashed t ++ s) (t .length + length s) r
 
--- What any state gives at the end: the bytes of its hash value after the padding for its number of bytes.
+-- What any state gives at the end: the bytes of its hash value after the bytes that are not hashed and the padding for its number of bytes.
 unfoldable pub finished : Sha1 → List ℕ
 finished t = let s = unhashed t ++ padding (t .length) in wordBytes (hashFrom (t .words) s (length s / 64))

@@ -22,9 +22,10 @@ WholeBlocks = (m : List ℕ) → length (padded m) % 64 ≡ 0
 abbrev pub TwentyBytes : Type 0
 TwentyBytes = (m : List ℕ) → (length (sha1 m) ≡ 20) × Bytes (sha1 m)
 
--- A state after a message m is by s one after m and s, and gives the digest of m at the end.
+-- Updated with s, a state after the message m is one after m and s.
 abbrev pub RunsOn : Type 0
 RunsOn = (t r : Sha1) (m s : List ℕ) → Running t m → Updated t s r → Running r (m ++ s)
 
+-- A state after the message m gives the digest of m at the end.
 abbrev pub EndsInDigest : Type 0
 EndsInDigest = (t : Sha1) (m : List ℕ) → Running t m → finished t ≡ sha1 m

@@ -1,5 +1,6 @@
 // The C boundary: every call of the library as an exported function. Each returns 0 for done, else the row of the refusal.
-// Results come last and are written only where said: a buffer and `written`, its length, on success, `at` with row 10. The C header calls `written` `length`.
+// Results come last and are written only where said: a buffer, and in `written` the length of the answer, on success; `at` with row 10.
+// The C header calls `written` `length`.
 pub mod chunk;
 mod ending;
 pub mod file;

@@ -87,7 +87,7 @@ fn calls_in(random: &mut Random, id: &[u8]) -> [Case; 5] {
     [path, plain, long, open_plain, open_long]
 }
 
-/// Row 4, whatever the keys: a file is cut or made longer, and is opened and
+/// Row 4, whatever keys of 32 bytes: a file is cut or made longer, and is opened and
 /// read with its own keys and with others.
 fn refused_file_lengths(compare: &mut Compare) {
     let open = make::open_file(&mut compare.random, 40_000);
