@@ -84,17 +84,17 @@ module _ (C : Codec) where
 
     pub writes-exactly : WritesExactly C Keys
     unfolding writeFile writeRows
-    writes-exactly c out b =
+    writes-exactly c out bh bk bn bc =
         let exact = succeeds-exactly (writeRows C c (length out)) (writeFileRules C Keys c (length out)) (write-file-matches C Keys keys c (length out)) refl (fileLength z (length (c .clear)) ∷ []) (filled (fileOf C c) (fileLength z (length (c .clear))) out) out in (
           λ s.
               let t = exact .0 s in
               let choice : Fits z c =
               record {
-                head-fits = fits z (c .head) (t .0 .1) (b .nonce-bytes) (b .key-bytes);
+                head-fits = fits z (c .head) (t .0 .1) bh bk;
                 nonces-size = t .0 .2;
                 clear-size = t .1 .0;
-                nonces-bytes = b .nonces-bytes;
-                clear-bytes = b .clear-bytes;
+                nonces-bytes = bn;
+                clear-bytes = bc;
               } in
               (t .0 .0, choice, t .1 .1 .0, t .1 .1 .1 .0),
           λ t.

@@ -8,11 +8,11 @@ use native.Mathlib.Omega.{arith}
 use lib.ListN.{length, drop}
 use Rattle.octets.specs.Bytes.{Bytes, filled}
 use Rattle.octets.specs.Rows.{done, ended}
-use Rattle.frame.specs.Layout.{chunkSize, chunks, fileLength, chunksFrom}
+use Rattle.frame.specs.Layout.{chunkSize, chunks, fileLength, headerAt, chunkAt, chunksFrom}
 use Rattle.frame.specs.Frame.{Head, HeadFits, Codec, fileOf, writeRows, writeFile}
 use Rattle.frame.specs.Rules.{writeFileRules}
 use Rattle.frame.specs.Laws.{Laws}
-use Rattle.frame.specs.Statements.{FileBytes, WrittenOpens}
+use Rattle.frame.specs.Statements.{FilePieces, FileBytes, WrittenOpens}
 use Rattle.octets.proofs.Rows.{Met, met-exactly, none-ends}
 use Rattle.octets.proofs.Bytes.{below-nil, below-take, below-drop, below-append}
 use Rattle.frame.proofs.Rules.{write-file-matches}
@@ -35,6 +35,10 @@ module _ (C : Codec) (𝓛 : Laws C) where
   file-bytes c fits =
       below-append (𝓛 .header-bytes (c .head) (fits .head-fits))
       (chunks-bytes (c .head) (fits .head-fits) 0 (chunks (length (c .clear))) (c .nonces) (c .clear) (fits .nonces-bytes) (fits .clear-bytes))
+
+  pub file-pieces : FilePieces C
+  unfolding headerAt chunkAt
+  file-pieces c fits = (written.file-length C 𝓛 c fits, written.file-header C 𝓛 c fits, written.file-chunk C 𝓛 c fits)
 
   pub written-opens : WrittenOpens C
   unfolding writeFile writeRows

@@ -45,13 +45,6 @@ pub record HeadFits (z : Sizes) (h : Head) : Type 0 where
   pub nonce-bytes : Bytes (h .nonce)
   pub key-bytes : Bytes (h .key)
 
--- All that a writer chooses is byte strings.
-pub record ByteStrings (c : Choice) : Type 0 where
-  pub nonce-bytes : Bytes (c .head .nonce)
-  pub key-bytes : Bytes (c .head .key)
-  pub nonces-bytes : Bytes (c .nonces)
-  pub clear-bytes : Bytes (c .clear)
-
 -- A choice within the limits: a nonce for each chunk, and no more cleartext than 512 chunks hold.
 pub record Fits (z : Sizes) (c : Choice) : Type 0 where
   pub head-fits : HeadFits z (c .head)

@@ -7,8 +7,12 @@ use mathlib.Core.List.{List, [], _∷_}
 use Prim.Native.Nat.{ℕ, _+_, _-_, _*_, _/_, _≤_, _<_}
 use lib.ListN.{length, take, drop}
 use Rattle.octets.specs.Rows.{refused, refusedAt, Rule}
-use Rattle.frame.specs.Layout.{Sizes, chunks, fileLength, clearLength, headerAt, chunkAt}
+use Rattle.frame.specs.Layout.{Sizes, fileLength, clearLength, headerAt, chunkAt}
 use Rattle.frame.specs.Frame.{Head, Codec, Choice, headIn, badChunk}
+
+-- Both master keys have 32 bytes.
+abbrev pub KeySizes : List ℕ → List ℕ → Type 0
+KeySizes enc mac = (length enc ≡ 32) × (length mac ≡ 32)
 
 -- The nonce and the content key of a header have their sizes.
 abbrev pub HeadSizes : Sizes → Head → Type 0
@@ -30,9 +34,13 @@ WithinLimit n = n ≤ 16777216
 abbrev pub FileLength : Sizes → ℕ → Type 0
 FileLength z l = (n : ℕ) × WithinLimit n × (l ≡ fileLength z n)
 
+-- How many chunks n bytes of cleartext have, within the limit or not: n / 32,768 rounded up.
+abbrev pub chunkCount : ℕ → ℕ
+chunkCount n = (n + 32767) / 32768
+
 -- The chunk nonces of a choice, one for each chunk of its cleartext, all differ.
 abbrev pub NoncesDiffer : Sizes → Choice → Type 0
-NoncesDiffer z c = Differ (z .nonce) (chunks (length (c .clear))) (c .nonces)
+NoncesDiffer z c = Differ (z .nonce) (chunkCount (length (c .clear))) (c .nonces)
 
 -- the calls on lengths
 abbrev pub fileLengthRules : ℕ → List Rule
@@ -41,7 +49,7 @@ fileLengthRules n = (WithinLimit n, refused 4) ∷ []
 abbrev pub clearLengthRules : Sizes → ℕ → List Rule
 clearLengthRules z l = (FileLength z l, refused 4) ∷ []
 
--- `Keys` says that the master keys have their sizes; the buffer has `room` bytes.
+-- `Keys` says that the master keys have their sizes (`KeySizes`, under any keys); the buffer has `room` bytes.
 module _ (C : Codec) (Keys : Type 0) where
   open Codec C using (sizes as z, headerGood, good)
   open Sizes z using (header, nonce)
@@ -65,7 +73,7 @@ module _ (C : Codec) (Keys : Type 0) where
   -- writing a file
   abbrev pub writeFileRules : Choice → ℕ → List Rule
   writeFileRules c room =
-      (Keys × HeadSizes z (c .head) × (length (c .nonces) ≡ nonce * chunks (length (c .clear))), refused 1)
+      (Keys × HeadSizes z (c .head) × (length (c .nonces) ≡ nonce * chunkCount (length (c .clear))), refused 1)
       ∷ (WithinLimit (length (c .clear)), refused 4)
       ∷ (fileLength z (length (c .clear)) ≤ room, refused 7)
       ∷ (NoncesDiffer z c, refused 8)
@@ -79,7 +87,7 @@ module _ (C : Codec) (Keys : Type 0) where
       ∷ (FileLength z (length f), refused 4)
       ∷ (n ≤ room, refused 7)
       ∷ (headerGood (headerAt z f) ≡ true, refused 9)
-      ∷ ((i : ℕ) → i < chunks n → good (headIn C f) i (chunkAt z f i) ≡ true, refusedAt 10 (badChunk C f 0 n))
+      ∷ ((i : ℕ) → i < chunkCount n → good (headIn C f) i (chunkAt z f i) ≡ true, refusedAt 10 (badChunk C f 0 n))
       ∷ []
 
   -- reading count bytes of f from `from` on: row 10 asks for the tag of every covering chunk, and of none where count is 0; `RowTen` fixes its

@@ -1,7 +1,7 @@
 -- Names and paths worked out from the definitions.
 -- Assumes nothing.
 use Prim.Native.Nat.{ℕ}
-use mathlib.Core.List.{List, []}
+use mathlib.Core.List.{List, [], _∷_}
 use mathlib.Core.Path.{_≡_, refl}
 use lib.ListN.{replicate}
 use Rattle.octets.specs.BigEndian.{intFrom, int, be}
@@ -56,3 +56,8 @@ distinct-full-name = refl
 distinct-hash-name : hashName longText ≡ be 32 0x71543861574d685f59757a5739485471796971595f4f434e59726b3d2e633973
 unfolding words wordBytes intFrom int be rotl ch parity maj stepFunction stepConstant extended schedule step steps added compress padding padded initial hashFrom sha1 base64url.sextets base64url.alphabet base64url.letter base64url.pad base64url.encode hashName
 distinct-hash-name = refl
+
+-- The name "a" in the root, whose ID is empty: "n8Zfcx6QGU1lwPU-gVAmtt0=.c9r"
+distinct-root-name : fullName enc mac [] (0x61 ∷ []) ≡ be 28 0x6e385a66637836514755316c7750552d6756416d7474303d2e633972
+unfolding f.xtimes f.mulBits f.mul sbox words wordBytes subWord rotWord powerOfX rcon temp expansion keyExpansion xors subBytes shiftRows mixColumns addRoundKey afterRounds cipher aes intFrom int be keystream ctr dbl pad subkey1 subkey2 chain lastBlock cmacFrom cmac xorend s2vLast s2vFrom s2v inc counterOf crypt seal base64url.sextets base64url.alphabet base64url.letter base64url.pad base64url.encode sealedName fullName
+distinct-root-name = refl

@@ -9,7 +9,7 @@ use lib.ListN.{length}
 use Rattle.octets.specs.Bytes.{Below, Bytes}
 use Rattle.octets.specs.Rows.{refused, Rule}
 use Rattle.encoding.specs.Base64url as base64url
-use Rattle.siv_gcm.specs.SivGcm.{KeySizes}
+use Rattle.frame.specs.Rules.{KeySizes}
 use Rattle.name_spec.specs.Names.{fullEnd, fullLength, hashName, nameLength, nameGood}
 
 -- A directory ID: at most 36 bytes, each below 128.

@@ -11,7 +11,7 @@ use Rattle.octets.specs.Rows.{done, refused, Rule, Exactly, EndsBy, Ascending, 
 use Rattle.aes_spec.specs.Cipher.{aes}
 use Rattle.siv.specs.Siv.{s2v}
 use Rattle.encoding.specs.Base64url as base64url
-use Rattle.siv_gcm.specs.SivGcm.{KeySizes}
+use Rattle.frame.specs.Rules.{KeySizes}
 use Rattle.name_spec.specs.Names.{fullEnd, path, fullName, fullLength, hashName, short, storedName, nameLength, nameOf}
 use Rattle.name_spec.specs.Calls.{pathLength, storedLength, writtenLengths, NameEnd, nameEnded, dirPath, writeName, openName, openLongName}
 use Rattle.name_spec.specs.Rules.{IdFits, NameSize, TextForm, NameRoom, dirPathRules, writeNameRules, openNameRules, openLongNameRules}

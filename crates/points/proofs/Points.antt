@@ -12,10 +12,10 @@ use Rattle.octets.proofs.Equality.{true-false}
 use Rattle.encoding.specs.Base64url.{encodedLength}
 use Rattle.frame.specs.Layout.{clearLength, rightLength}
 use Rattle.frame.specs.Single.{fileLengthOf}
-use Rattle.frame.specs.Rules.{FileLength}
+use Rattle.frame.specs.Rules.{KeySizes, FileLength}
 use Rattle.frame.proofs.Rules.{length-exactly}
 use Rattle.frame.proofs.Exactly.{lengths-exactly, rows-exactly}
-use Rattle.siv_gcm.specs.SivGcm.{sivGcm, KeySizes, codec}
+use Rattle.siv_gcm.specs.SivGcm.{sivGcm, codec}
 use Rattle.siv_gcm.proofs.KeySizes.{keys-exactly}
 use Rattle.name_spec.specs.Names.{fullLength, storedName}
 use Rattle.name_spec.proofs.Texts.{length-full}

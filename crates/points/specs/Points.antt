@@ -9,7 +9,8 @@ use Rattle.octets.specs.Rows.{done, refused, ended}
 use Rattle.frame.specs.Layout.{Covers}
 use Rattle.frame.specs.Frame.{openFile, readRange}
 use Rattle.frame.specs.Single.{fileLengthOf, clearLengthOf}
-use Rattle.siv_gcm.specs.SivGcm.{sivGcm, KeySizes, codec}
+use Rattle.frame.specs.Rules.{KeySizes}
+use Rattle.siv_gcm.specs.SivGcm.{sivGcm, codec}
 use Rattle.name_spec.specs.Names.{fullName, hashName, storedName}
 use Rattle.name_spec.specs.Calls.{writtenLengths}
 

@@ -8,8 +8,9 @@ use mathlib.Core.List.{List}
 use lib.ListN.{length}
 use Rattle.octets.proofs.Tests.{eqb-exactly, both-exactly}
 use Rattle.frame.specs.Frame.{keySize, headRight}
+use Rattle.frame.specs.Rules.{KeySizes}
 use Rattle.frame.proofs.Rules as rules
-use Rattle.siv_gcm.specs.SivGcm.{sivGcm, headWith, masterKeysRight, KeySizes}
+use Rattle.siv_gcm.specs.SivGcm.{sivGcm, headWith, masterKeysRight}
 
 pub keys-exactly : (enc mac : List ℕ) → (masterKeysRight enc mac ≡ true) ↔ KeySizes enc mac
 unfolding masterKeysRight

@@ -62,10 +62,6 @@ module _ (enc mac : List ℕ) where
   unfoldable pub masterKeysRight : Bool
   masterKeysRight = eqb (length enc) keySize && eqb (length mac) keySize
 
-  -- Both master keys have 32 bytes.
-  abbrev pub KeySizes : Type 0
-  KeySizes = (length enc ≡ 32) × (length mac ≡ 32)
-
   abbrev pub codec : Codec
   codec =
       record {
