@@ -2,5 +2,4 @@ pub mod Texts
 pub mod Ends
 pub mod Rules
 pub mod Openings
-pub mod Vectors
 pub mod Demands
