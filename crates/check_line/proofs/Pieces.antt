@@ -2,22 +2,13 @@
 -- Assumes nothing.
 use mathlib.Core.Path.{_≡_, ap, _∙_}
 use mathlib.Core.List.{List, [], _∷_, _++_, append-assoc}
-use Prim.Native.Nat.{ℕ, _+_, _≤_, _<_}
+use Prim.Native.Nat.{ℕ, _+_, _<_}
 use native.Mathlib.Numerals.{add-one}
 use native.Mathlib.Omega.{arith}
 use lib.ListN.{length, take, drop, set, length-append}
-use lib.Seq.{set-split, length-take-le}
+use lib.Seq.{set-split}
 use Rattle.octets.specs.Bytes.{placed}
-use Rattle.octets.proofs.Lists.{drop-front, take-placed}
-
--- a piece b behind a piece a
-pub placed-placed : (a b d : List ℕ) (at : ℕ) → at ≤ length d → placed b (at + length a) (placed a at d) ≡ placed (a ++ b) at d
-placed-placed a b d at h =
-    let l : length (take at d ++ a) ≡ at + length a = length-append (take at d) a ∙ ap (λ (n : ℕ). n + length a) (length-take-le at d h) in
-    let t : take (at + length a) (placed a at d) ≡ take at d ++ a = take-placed a d at h in
-    let r : drop (at + length a + length b) (placed a at d) ≡ drop (at + length a + length b) d = drop-front (take at d ++ a) d (at + length a) (at + length a + length b) l (omega arith) in
-    let n : at + length a + length b ≡ at + length (a ++ b) = rw length-append (omega arith) in
-    rw (t, r, n, append-assoc (take at d) a b)
+use Rattle.octets.proofs.Lists.{placed-placed}
 
 -- one byte
 pub placed-byte : (v : ℕ) (d : List ℕ) (at : ℕ) → at < length d → set d at v ≡ placed (v ∷ []) at d

@@ -1,11 +1,11 @@
 // Counter mode with AES-256 and a counter of 32 bits, applied from any byte of the text on.
 use aes::block::Block;
-use aes::block::add;
-use aes::block::block_at;
 use aes::block::encrypt;
 use aes::block::to_bytes;
 use octets::slice::copy_at;
 use octets::slice::xor_into;
+use octets::word::put_word;
+use octets::word::word_at;
 use std::num::wrapping_add_u32;
 ghost use mathlib.Core.Path.{_≡_};
 ghost use mathlib.Core.List.{_++_};
@@ -39,15 +39,31 @@ fn in_block(r: usize, left: usize) -> usize
     if left < 16 - r { left } else { 16 - r }
 }
 
-// Adds the bytes of a block of the key stream, from its byte r on, to src, into out.
-fn apply(k: Block, r: usize, src: &[u8], out: &mut [u8])
-    requires { ⌜ (r + length (now src) ≤ 16) × (length (now out) ≡ length (now src)) ⌝ }
-    ensures { λ _. ⌜ now (out .exit) ≡ xors (now (src .entry)) (drop r (state k)) ⌝ }
+// Enciphers the counter block c and adds it to src, a whole block, into out. The first word of src is read before, so that it is
+// there when it is wanted, and each word is written as soon as it is made: the compiler then stores words, and not bytes.
+fn whole(t: &[u32; 256], w: &[u32], c: Block, src: &[u8], out: &mut [u8])
+    requires { ⌜ now t ≡ roundTable ⌝ }
+    requires { ⌜ (60 ≤ length (now w)) × (length (now src) ≡ 16) × (length (now out) ≡ 16) ⌝ }
+    ensures { λ _. ⌜ now (out .exit) ≡ xors (now (src .entry)) (cipher 14 (now (w .entry)) (state c)) ⌝ }
+{
+    let a = word_at(src, 0);
+    let k = encrypt(t, w, c);
+    put_word(a ^ k.a, out, 0);
+    put_word(word_at(src, 4) ^ k.b, out, 4);
+    put_word(word_at(src, 8) ^ k.c, out, 8);
+    put_word(word_at(src, 12) ^ k.d, out, 12);
+}
+
+// The same of a block or a part of one, whose first byte is the block's byte r.
+fn apply(t: &[u32; 256], w: &[u32], c: Block, r: usize, src: &[u8], out: &mut [u8])
+    requires { ⌜ now t ≡ roundTable ⌝ }
+    requires { ⌜ (60 ≤ length (now w)) × (r + length (now src) ≤ 16) × (length (now out) ≡ length (now src)) ⌝ }
+    ensures { λ _. ⌜ now (out .exit) ≡ xors (now (src .entry)) (drop r (cipher 14 (now (w .entry)) (state c))) ⌝ }
 {
     if src.len() == 16 {
-        copy_at(&to_bytes(add(block_at(src, 0), k)), out, 0);
+        whole(t, w, c, src, out);
     } else {
-        let bytes = to_bytes(k);
+        let bytes = to_bytes(encrypt(t, w, c));
         copy_at(src, out, 0);
         xor_into(&bytes[r..], out);
     }
@@ -66,8 +82,8 @@ pub fn crypt(t: &[u32; 256], w: &[u32], first: Block, src: &[u8], lo: usize, out
         let n = in_block(p % 16, out.len() - j);
         let e = j + n;
         let q = p + n;
-        let k = encrypt(t, w, counter_at(first, p / 16));
-        apply(k, p % 16, &src[p..q], &mut out[j..e]);
+        let c = counter_at(first, p / 16);
+        apply(t, w, c, p % 16, &src[p..q], &mut out[j..e]);
         j = e;
     }
 }

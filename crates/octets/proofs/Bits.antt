@@ -2,10 +2,10 @@
 -- Assumes nothing.
 use Prim.Native.Nat.{ℕ, zero, suc, _+_, _*_, _/_, _%_, _^_, _<_}
 use mathlib.Core.Path.{_≡_, refl, sym, ap, ap₂, _∙_}
-use mathlib.Core.Logic.{⊎-elim}
-use native.Mathlib.Nat.{div-add-mod', mod-lt, zero-lt-suc, le-of-suc-le-suc, not-suc-le-zero}
+use native.Mathlib.Nat.{div-add-mod', mod-lt, zero-lt-suc, le-of-suc-le-suc, not-suc-le-zero, add-zero}
 use lib.Arith.{bin-ind}
-use lib.Bits.{bitXor, bitAnd, xor-shr, xor-mod, xor-zero-r, xor-self, xor-comm, and-shr, and-mod}
+use lib.Pow.{pow-pos}
+use lib.Bits.{bitXor, bitAnd, xor-shr, xor-mod, xor-zero-r, xor-self, xor-comm, xor-block, and-shr, and-mod}
 
 -- Two numbers are equal when their halves and their lowest digits are
 by-halves : {a b : ℕ} → a / 2 ≡ b / 2 → a % 2 ≡ b % 2 → a ≡ b
@@ -47,6 +47,18 @@ xor-twice a b = xor-assoc a b b ∙ ap (bitXor a) (xor-self b) ∙ xor-zero-r a
 -- Two numbers whose sum is 0 are equal.
 pub xor-zero : (a b : ℕ) → bitXor a b ≡ 0 → a ≡ b
 xor-zero a b h = sym (xor-twice a b) ∙ ap (λ (x : ℕ). bitXor x b) h
+
+-- The sum of two sums, by their first and by their second parts.
+pub xor-parts : (a b c d : ℕ) → bitXor (bitXor a b) (bitXor c d) ≡ bitXor (bitXor a c) (bitXor b d)
+xor-parts a b c d =
+    xor-assoc a b (bitXor c d)
+    ∙ ap (bitXor a) (sym (xor-assoc b c d) ∙ ap (λ (x : ℕ). bitXor x d) (xor-comm b c) ∙ xor-assoc c b d)
+    ∙ sym (xor-assoc a c (bitXor b d))
+
+-- A sum, k places to the left.
+pub xor-shl : (a b k : ℕ) → bitXor a b * 2 ^ k ≡ bitXor (a * 2 ^ k) (b * 2 ^ k)
+xor-shl a b k =
+    sym (ap₂ bitXor (sym (add-zero (a * 2 ^ k))) (sym (add-zero (b * 2 ^ k))) ∙ xor-block k a b 0 0 (pow-pos k) (pow-pos k) ∙ add-zero (bitXor a b * 2 ^ k))
 
 -- ---- and
 

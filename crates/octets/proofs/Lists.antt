@@ -97,6 +97,15 @@ placed-behind y t d n h k =
 pub take-placed : (s d : List ℕ) (at : ℕ) → at ≤ length d → take (at + length s) (placed s at d) ≡ take at d ++ s
 take-placed s d at h = take-at (take at d ++ s) (drop (at + length s) d) (at + length s) (simp (length-append, length-take-le at d h))
 
+-- A piece b behind a piece a.
+pub placed-placed : (a b d : List ℕ) (at : ℕ) → at ≤ length d → placed b (at + length a) (placed a at d) ≡ placed (a ++ b) at d
+placed-placed a b d at h =
+    let l : length (take at d ++ a) ≡ at + length a = length-append (take at d) a ∙ ap (λ (n : ℕ). n + length a) (length-take-le at d h) in
+    let t : take (at + length a) (placed a at d) ≡ take at d ++ a = take-placed a d at h in
+    let r : drop (at + length a + length b) (placed a at d) ≡ drop (at + length a + length b) d = drop-front (take at d ++ a) d (at + length a) (at + length a + length b) l (omega arith) in
+    let n : at + length a + length b ≡ at + length (a ++ b) = rw length-append (omega arith) in
+    rw (t, r, n, append-assoc (take at d) a b)
+
 -- The next part p of s is written after its first k elements.
 pub placed-next : (s d p : List ℕ) (at k : ℕ) → at ≤ length d → k ≤ length s → p ≡ take (length p) (drop k s)
     → placed p (at + k) (paste d at s k) ≡ paste d at s (k + length p)

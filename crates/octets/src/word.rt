@@ -1,8 +1,11 @@
 // A word and its bytes, the first byte the highest.
+use crate::slice::copy_at;
 ghost use mathlib.Core.Path.{_≡_};
+ghost use mathlib.Core.List.{_∷_, []};
 ghost use Prim.Native.Nat.{_≤_, _+_};
 ghost use lib.ListN.{length, getD};
-ghost use Rattle.octets.specs.Words.{HasBytes, word, wordAt, b0, b1, b2, b3};
+ghost use Rattle.octets.specs.Bytes.{placed};
+ghost use Rattle.octets.specs.Words.{HasBytes, word, wordAt, b0, b1, b2, b3, wordBytes};
 
 pub fn join(a: u8, b: u8, c: u8, d: u8) -> u32
     ensures { λ r. ⌜ r ≡ word a b c d ⌝ }
@@ -42,4 +45,18 @@ pub fn word_at(s: &[u8], at: usize) -> u32
     ensures { λ r. ⌜ HasBytes r (getD (now (s .entry)) at 0) (getD (now (s .entry)) (at + 1) 0) (getD (now (s .entry)) (at + 2) 0) (getD (now (s .entry)) (at + 3) 0) ⌝ }
 {
     join(s[at], s[at + 1], s[at + 2], s[at + 3])
+}
+
+fn bytes_of(w: u32) -> [u8; 4]
+    ensures { λ r. ⌜ r ≡ wordBytes (w ∷ []) ⌝ }
+{
+    [byte0(w), byte1(w), byte2(w), byte3(w)]
+}
+
+// Writes the four bytes of a word to out at a place.
+pub fn put_word(w: u32, out: &mut [u8], at: usize)
+    requires { ⌜ at + 4 ≤ length (now out) ⌝ }
+    ensures { λ _. ⌜ now (out .exit) ≡ placed (wordBytes (w ∷ [])) at (now (out .entry)) ⌝ }
+{
+    copy_at(&bytes_of(w), out, at);
 }

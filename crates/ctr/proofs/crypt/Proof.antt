@@ -1,6 +1,6 @@
 -- `crypt`: after each turn the first j bytes of out are those of the text.
 -- Assumes nothing.
-use Prim.Native.Nat.{ℕ, _+_, _-_, _/_, _%_, _^_, _<_, _≤_}
+use Prim.Native.Nat.{ℕ, _+_, _-_, _/_, _%_, _≤_}
 use mathlib.Core.Path.{_≡_, refl, sym, _∙_, ap, ap₂}
 use mathlib.Core.List.{List, _++_, append-nil}
 use borrow.Author.Needs.{needs}
@@ -67,9 +67,6 @@ add-q c = search needs
 counter-at-requires : tie.Need-counter-at-requires Inv-loop μ-loop
 counter-at-requires c κs = search needs
 
-encrypt-requires : tie.Need-encrypt-requires Inv-loop μ-loop
-encrypt-requires c κs = search needs
-
 sub-apply : tie.Need-sub-apply Inv-loop μ-loop
 sub-apply c = search needs
 
@@ -97,14 +94,14 @@ loop-less c = search needs
 loop-again : tie.Need-loop-again Inv-loop μ-loop
 loop-again c =
     let b = c .before .before .before .before .before in
-    let l = b .before .before .before .before .loop in
-    let i = b .before .before .before .before .before .before .before .before in
+    let l = b .before .before .before .loop in
+    let i = b .before .before .before .before .before .before .before in
     let x = i .args in
-    let n = b .before .before .in-block .result in
+    let n = b .before .in-block .result in
     let q = x .first in
     let f = step (x .w .now) (take 12 (state q)) (x .src .now) (x .out .now) (l .out) (q .d) (x .lo) (l .j) n
-    (block-fixed (q .a) (q .b) (q .c) (q .d)) (b .before .counter-at .ensures .0) (i .pre .1 .1) (omega (arith, b .before .before .in-block .ensures)) (b .before .before .in-block .ensures .2) (l .inv .2)
-    (b .encrypt .ensures ∙ ap (cipher 14 (x .w .now)) (b .before .counter-at .ensures .1)) (c .before .before .apply .ensures) in
+    (block-fixed (q .a) (q .b) (q .c) (q .d)) (b .counter-at .ensures .0) (i .pre .1 .1) (omega (arith, b .before .in-block .ensures)) (b .before .in-block .ensures .2) (l .inv .2)
+    (ap (cipher 14 (x .w .now)) (b .counter-at .ensures .1)) (c .before .before .apply .ensures) in
     (omega arith, f .0, f .1)
 
 same-length : tie.Need-same-length Inv-loop μ-loop
@@ -131,7 +128,6 @@ crypt-spec =
     add-e
     add-q
     counter-at-requires
-    encrypt-requires
     sub-apply
     part-apply-start
     part-apply-end

@@ -11,7 +11,8 @@ use lib.ListN.{length, set}
 use Rattle.octets.specs.Bytes.{placed}
 use Rattle.check_line.specs.Line.{decimal}
 use Rattle.check_line.proofs.Decimals.{decimal-one, decimal-more, length-one, length-more}
-use Rattle.check_line.proofs.Pieces.{placed-placed, placed-byte}
+use Rattle.octets.proofs.Lists.{placed-placed}
+use Rattle.check_line.proofs.Pieces.{placed-byte}
 use Rattle.check_line.proofs.decimal.put_decimal.Reads as put-decimal
 use Rattle.check_line.proofs.decimal.put_decimal.Kinds as put-decimal-kinds
 use Rattle.check_line.proofs.decimal.+put_decimal.Lts-put_decimal as put-decimal-lts

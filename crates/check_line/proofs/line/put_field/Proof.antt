@@ -7,7 +7,7 @@ use native.Mathlib.Omega.{arith}
 use lib.ListN.{length, length-append}
 use Rattle.octets.specs.Bytes.{placed}
 use Rattle.check_line.specs.Line.{decimal}
-use Rattle.check_line.proofs.Pieces.{placed-placed}
+use Rattle.octets.proofs.Lists.{placed-placed}
 use Rattle.check_line.proofs.line.put_field.Statement.{statement}
 use Rattle.check_line.proofs.line.put_field.Tie as tie
 

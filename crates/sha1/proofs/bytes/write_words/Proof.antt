@@ -23,26 +23,20 @@ abbrev μ-loop : tie.MeasureT-loop
 loop-holds : tie.Need-loop-holds Inv-loop μ-loop
 loop-holds c = let x = c .before .before .args in (search needs, refl, paste-zero (x .out .now) (x .at) (wordBytes (x .w .now)))
 
-mul-bytes-of : tie.Need-mul-bytes-of Inv-loop μ-loop
-mul-bytes-of c = search needs
+mul-put-word : tie.Need-mul-put-word Inv-loop μ-loop
+mul-put-word c = search needs
 
-shared-slice-read-bytes-of : tie.Need-shared-slice-read-bytes-of Inv-loop μ-loop
-shared-slice-read-bytes-of c = search needs
+shared-slice-read-put-word : tie.Need-shared-slice-read-put-word Inv-loop μ-loop
+shared-slice-read-put-word c = search needs
 
-bytes-of-requires : tie.Need-bytes-of-requires Inv-loop μ-loop
-bytes-of-requires c κs = search needs
+mul-put-word-2 : tie.Need-mul-put-word-2 Inv-loop μ-loop
+mul-put-word-2 c = search needs
 
-slice-aggregate-copy-at : tie.Need-slice-aggregate-copy-at Inv-loop μ-loop
-slice-aggregate-copy-at c = search needs
+add-put-word : tie.Need-add-put-word Inv-loop μ-loop
+add-put-word c = search needs
 
-mul-copy-at : tie.Need-mul-copy-at Inv-loop μ-loop
-mul-copy-at c = search needs
-
-add-copy-at : tie.Need-add-copy-at Inv-loop μ-loop
-add-copy-at c = search needs
-
-copy-at-requires : tie.Need-copy-at-requires Inv-loop μ-loop
-copy-at-requires c κs = search needs
+put-word-requires : tie.Need-put-word-requires Inv-loop μ-loop
+put-word-requires c κs = search needs
 
 add-i : tie.Need-add-i Inv-loop μ-loop
 add-i c = search needs
@@ -51,22 +45,22 @@ loop-less : tie.Need-loop-less Inv-loop μ-loop
 loop-less c = search needs
 
 -- One word more.
-step : (w d l p r : List ℕ) (at i : ℕ) → i < length w → at ≤ length d → l ≡ paste d at (wordBytes w) (4 * i) → p ≡ wordBytes (getD w i 0 ∷ [])
-    → r ≡ placed p (at + 4 * i) l → r ≡ paste d at (wordBytes w) (4 * (i + 1))
-step w d l p r at i h k e f g =
-    let n : length p ≡ 4 = ap length f ∙ length-wordBytes (getD w i 0 ∷ []) in
-    let q : p ≡ take (length p) (drop (4 * i) (wordBytes w)) = f ∙ sym (wordBytes-at w i h) ∙ ap (λ (j : ℕ). take j (drop (4 * i) (wordBytes w))) (sym n) in
+step : (w d l r : List ℕ) (at i : ℕ) → i < length w → at ≤ length d → l ≡ paste d at (wordBytes w) (4 * i)
+    → r ≡ placed (wordBytes (getD w i 0 ∷ [])) (at + 4 * i) l → r ≡ paste d at (wordBytes w) (4 * (i + 1))
+step w d l r at i h k e g =
+    let p = wordBytes (getD w i 0 ∷ []) in
+    let n : length p ≡ 4 = length-wordBytes (getD w i 0 ∷ []) in
+    let q : p ≡ take (length p) (drop (4 * i) (wordBytes w)) = sym (wordBytes-at w i h) ∙ ap (λ (j : ℕ). take j (drop (4 * i) (wordBytes w))) (sym n) in
     let j : 4 * i + length p ≡ 4 * (i + 1) = omega arith in
     g ∙ ap (placed p (at + 4 * i)) e ∙ placed-next (wordBytes w) d p at (4 * i) k (omega (arith, length-wordBytes w)) q ∙ ap (paste d at (wordBytes w)) j
 
 loop-again : tie.Need-loop-again Inv-loop μ-loop
 loop-again c =
-    let l = c .before .before .before .before .before .before .before .before .loop in
-    let x = c .before .before .before .before .before .before .before .before .before .before .before .args in
-    let b = c .before .before .before .before .before .bytes-of in (
+    let l = c .before .before .before .before .before .before .loop in
+    let x = c .before .before .before .before .before .before .before .before .before .args in (
       omega arith,
       c .before .out .given ∙ l .inv .1,
-      step (x .w .now) (x .out .now) (l .out) (b .result) _ (x .at) (l .i) (omega arith) (omega arith) (l .inv .2) (b .ensures) (c .before .before .copy-at .ensures),
+      step (x .w .now) (x .out .now) (l .out) _ (x .at) (l .i) (omega arith) (omega arith) (l .inv .2) (c .before .before .put-word .ensures),
     )
 
 same-length : tie.Need-same-length Inv-loop μ-loop
@@ -87,13 +81,11 @@ write-words-spec =
     Inv-loop
     μ-loop
     loop-holds
-    mul-bytes-of
-    shared-slice-read-bytes-of
-    bytes-of-requires
-    slice-aggregate-copy-at
-    mul-copy-at
-    add-copy-at
-    copy-at-requires
+    mul-put-word
+    shared-slice-read-put-word
+    mul-put-word-2
+    add-put-word
+    put-word-requires
     add-i
     loop-less
     loop-again

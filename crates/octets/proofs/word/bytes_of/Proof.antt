@@ -1,9 +1,9 @@
 -- `bytes_of`: the four bytes in order.
 -- Assumes nothing.
 use Rattle.octets.specs.Words.{wordBytes}
 use borrow.Author.Needs.{needs}
-use Rattle.sha1.proofs.bytes.bytes_of.Statement.{statement}
-use Rattle.sha1.proofs.bytes.bytes_of.Tie as tie
+use Rattle.octets.proofs.word.bytes_of.Statement.{statement}
+use Rattle.octets.proofs.word.bytes_of.Tie as tie
 
 byte0-requires : tie.Need-byte0-requires
 byte0-requires c κs = search needs
