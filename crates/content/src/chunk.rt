@@ -1,10 +1,9 @@
 // The calls on a single chunk. They are lent the content key and the header's nonce, and no master key: a chunk does not depend on any,
 // so the contracts hold for every two.
-use aes::key::expand;
 use aes::round_table::table;
 use answer::Answer;
 use answer::Refusal;
-use gcm::aead::subkey;
+use gcm::key::prepare;
 use siv_gcm::chunk::good_chunk;
 use siv_gcm::chunk::seal_chunk;
 use siv_gcm::sizes::head_right;
@@ -46,9 +45,9 @@ fn seal_under(
 {
     let t = table();
     let mut w = [0u32; 60];
-    expand(key, &mut w);
-    let h = subkey(&t, &w);
-    seal_chunk(&t, &w, h, header_nonce, number, nonce, cleartext, out);
+    let mut m = [0u64; 32];
+    prepare(&t, key, &mut w, &mut m);
+    seal_chunk(&t, &w, &m, header_nonce, number, nonce, cleartext, out);
 }
 
 /// Writes the chunk of a number, a nonce and a cleartext of 1 to 32,768 bytes: 28 bytes more. Rows 1, 4, 7.
@@ -88,9 +87,9 @@ fn open_under(key: &[u8], header_nonce: &[u8], number: u64, chunk: &[u8], out: &
 {
     let t = table();
     let mut w = [0u32; 60];
-    expand(key, &mut w);
-    let h = subkey(&t, &w);
-    if !good_chunk(&t, &w, h, header_nonce, number, chunk) {
+    let mut m = [0u64; 32];
+    prepare(&t, key, &mut w, &mut m);
+    if !good_chunk(&t, &w, &m, header_nonce, number, chunk) {
         return false;
     }
     open_part(&t, &w, chunk, 0, out);

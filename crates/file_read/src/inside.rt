@@ -2,16 +2,15 @@
 use crate::chunks::end_chunk;
 use crate::chunks::lowest_bad;
 use crate::range::write_range;
-use aes::key::expand;
 use aes::round_table::table;
 use answer::Answer;
 use answer::Refusal;
-use gcm::aead::subkey;
+use gcm::key::prepare;
 use siv_gcm::header::open_header;
 ghost use mathlib.Core.Path.{_≡_};
 ghost use mathlib.Core.Bool.{true};
 ghost use mathlib.Core.List.{List};
-ghost use Prim.Native.Nat.{ℕ, _+_, _≤_, _<_, _^_};
+ghost use Prim.Native.Nat.{ℕ, _+_, _≤_, _<_};
 ghost use lib.ListN.{length, take};
 ghost use Rattle.octets.specs.Rows.{ended};
 ghost use Rattle.aes_spec.specs.RoundTable.{roundTable};
@@ -36,11 +35,11 @@ fn read_under(
     ensures { λ r. ⌜ ended (meaning r) (now (out .exit)) ≡ readUnder (headWith (take 12 (now (file .entry))) (now (key .entry))) (now (file .entry)) from count (now (out .entry)) ⌝ }
 {
     let mut w = [0u32; 60];
-    expand(key, &mut w);
-    let h = subkey(t, &w);
+    let mut m = [0u64; 32];
+    prepare(t, key, &mut w, &mut m);
     let first = from / 32768;
     let e = end_chunk(from, count);
-    let i = lowest_bad(t, &w, h, &file[..12], file, n, first, e);
+    let i = lowest_bad(t, &w, &m, &file[..12], file, n, first, e);
     if i < e {
         return Answer::Refused(Refusal::Chunk(i as u64));
     }

@@ -4,10 +4,9 @@ mod nonces;
 
 use crate::chunks::write_chunks;
 use crate::nonces::repeats;
-use aes::key::expand;
 use answer::Answer;
 use answer::Refusal;
-use gcm::aead::subkey;
+use gcm::key::prepare;
 use siv_gcm::header::seal_header;
 use siv_gcm::sizes::head_right;
 use siv_gcm::sizes::master_keys_right;
@@ -60,9 +59,9 @@ fn seal_file(
     let t = aes::round_table::table();
     seal_header(&t, enc, header_nonce, key, &mut out[..68]);
     let mut w = [0u32; 60];
-    expand(key, &mut w);
-    let h = subkey(&t, &w);
-    write_chunks(&t, &w, h, header_nonce, nonces, cleartext, &mut out[68..]);
+    let mut m = [0u64; 32];
+    prepare(&t, key, &mut w, &mut m);
+    write_chunks(&t, &w, &m, header_nonce, nonces, cleartext, &mut out[68..]);
 }
 
 /// Writes the file of a cleartext to the front of out, and answers its length. `nonces` has 12 bytes for each chunk, in order.

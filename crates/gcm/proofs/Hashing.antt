@@ -2,11 +2,11 @@
 -- Assumes nothing.
 use Prim.Native.Nat.{ℕ, zero, suc, _+_, _-_, _*_, _/_, _%_, _^_, _<_, _≤_}
 use mathlib.Core.Path.{_≡_, refl, sym, _∙_, ap, ap₂}
-use mathlib.Core.List.{List, [], _∷_, _++_, append-assoc}
+use mathlib.Core.List.{List, [], _∷_, _++_, append-assoc, append-nil}
 use native.Mathlib.Omega.{arith}
-use native.Mathlib.Nat.{zero-add, suc-add, mod-eq-of-lt}
+use native.Mathlib.Nat.{zero-add, suc-add, add-comm, mod-eq-of-lt}
 use lib.ListN.{length, take, drop, replicate, length-append, length-drop, length-replicate}
-use lib.Seq.{drop-append-le, take-append-le, drop-drop, take-all, drop-at, take-at}
+use lib.Seq.{drop-append-le, take-append-le, drop-drop, take-all}
 use lib.Bits.{bitXor}
 use Rattle.octets.specs.BigEndian.{intFrom, int, be}
 use Rattle.ctr.specs.Ctr.{blocks}
@@ -41,34 +41,38 @@ module _ (h : ℕ) where
     abbrev pub rest : ℕ → ℕ → ℕ
     rest z i = ghashFrom h z (drop (16 * i) (pad s)) (blocks (length s) - i)
 
-    pub hash-more : (z z' i : ℕ) (b : List ℕ) → 16 * i + 16 ≤ length s → b ≡ take 16 (drop (16 * i) s) → z' ≡ ghashStep h z b → rest z i ≡ rest z' (i + 1)
-    unfolding pad
+    pub hash-more : (z z' i : ℕ) (b : List ℕ) → i < blocks (length s) → b ≡ take 16 (drop (16 * i) (pad s)) → z' ≡ ghashStep h z b → rest z i ≡ rest z' (i + 1)
     hash-more z z' i b l p q =
-        let zs : List ℕ = replicate (16 * blocks (length s) - length s) 0 in
         let e : blocks (length s) - i ≡ suc (blocks (length s) - (i + 1)) = omega arith in
-        let f : 16 * i + 16 ≡ 16 * (i + 1) = omega arith in
-        let g : 16 ≤ length (drop (16 * i) s) = rw length-drop (omega arith) in
-        let t : take 16 (drop (16 * i) (s ++ zs)) ≡ b = ap (take 16) (drop-append-le (16 * i) s zs (omega arith)) ∙ take-append-le 16 (drop (16 * i) s) zs g ∙ sym p in
-        let d : drop 16 (drop (16 * i) (s ++ zs)) ≡ drop (16 * (i + 1)) (s ++ zs) = drop-drop 16 (16 * i) (s ++ zs) ∙ ap (λ (x : ℕ). drop x (s ++ zs)) f in
-        ap (ghashFrom h z (drop (16 * i) (s ++ zs))) e
-        ∙ one-block z (blocks (length s) - (i + 1)) (drop (16 * i) (s ++ zs))
-        ∙ rw (t, d, q)
+        let f : 16 + 16 * i ≡ 16 * (i + 1) = omega arith in
+        let d : drop 16 (drop (16 * i) (pad s)) ≡ drop (16 * (i + 1)) (pad s) = drop-drop 16 (16 * i) (pad s) ∙ ap (λ (x : ℕ). drop x (pad s)) (add-comm (16 * i) 16 ∙ f) in
+        ap (ghashFrom h z (drop (16 * i) (pad s))) e
+        ∙ one-block z (blocks (length s) - (i + 1)) (drop (16 * i) (pad s))
+        ∙ rw (← p, d, q)
 
-    pub hash-last : (z z' i : ℕ) (b : List ℕ) → i ≡ length s / 16 → 16 * i < length s
-        → b ≡ drop (16 * i) s ++ replicate (16 - length (drop (16 * i) s)) 0 → z' ≡ ghashStep h z b → rest z i ≡ z'
-    unfolding pad
-    hash-last z z' i b k l p q =
-        let zs : List ℕ = replicate (16 * blocks (length s) - length s) 0 in
-        let e : blocks (length s) - i ≡ 1 = omega arith in
-        let n : 16 * blocks (length s) - length s ≡ 16 - length (drop (16 * i) s) = rw length-drop (omega arith) in
-        let t : drop (16 * i) (s ++ zs) ≡ b = drop-append-le (16 * i) s zs (omega arith) ∙ ap (λ (x : ℕ). drop (16 * i) s ++ replicate x 0) n ∙ sym p in
-        let m : length b ≡ 16 = ap length p ∙ simp (length-append, length-replicate, length-drop) (omega arith) in
-        ap₂ (λ (x : List ℕ) (y : ℕ). ghashFrom h z x y) t e ∙ one-block z 0 b ∙ no-block _ _ ∙ ap (ghashStep h z) (take-all 16 b (omega arith)) ∙ sym q
-
-    pub hash-none : (z i : ℕ) → i ≡ length s / 16 → length s ≤ 16 * i → rest z i ≡ z
-    hash-none z i k l =
+    pub hash-none : (z i : ℕ) → i ≡ blocks (length s) → rest z i ≡ z
+    hash-none z i k =
         let e : blocks (length s) - i ≡ 0 = omega arith in
         ap (ghashFrom h z (drop (16 * i) (pad s))) e ∙ no-block z _
+
+-- A whole block of s.
+module _ (s : List ℕ) (i : ℕ) where
+  pub block-whole : 16 * i + 16 ≤ length s → take 16 (drop (16 * i) s) ≡ take 16 (drop (16 * i) (pad s))
+  unfolding pad
+  block-whole l =
+      let zs : List ℕ = replicate (16 * blocks (length s) - length s) 0 in
+      let g : 16 ≤ length (drop (16 * i) s) = rw length-drop (omega arith) in
+      sym (ap (take 16) (drop-append-le (16 * i) s zs (omega arith)) ∙ take-append-le 16 (drop (16 * i) s) zs g)
+
+  -- The last block, filled up.
+  pub block-last : 16 * i < length s → length s < 16 * i + 16 → drop (16 * i) s ++ replicate (16 - length (drop (16 * i) s)) 0 ≡ take 16 (drop (16 * i) (pad s))
+  unfolding pad
+  block-last l k =
+      let zs : List ℕ = replicate (16 * blocks (length s) - length s) 0 in
+      let n : 16 * blocks (length s) - length s ≡ 16 - length (drop (16 * i) s) = rw length-drop (omega arith) in
+      let t : drop (16 * i) (s ++ zs) ≡ drop (16 * i) s ++ replicate (16 - length (drop (16 * i) s)) 0 = drop-append-le (16 * i) s zs (omega arith) ∙ ap (λ (x : ℕ). drop (16 * i) s ++ replicate x 0) n in
+      let m : length (drop (16 * i) (s ++ zs)) ≤ 16 = rw t (simp (length-append, length-replicate, length-drop) (omega arith)) in
+      sym (take-all 16 (drop (16 * i) (s ++ zs)) m ∙ t)
 
 -- The last block of all, the lengths.
 pub int-lengths : (a c : ℕ) → a < 2 ^ 64 → c < 2 ^ 64 → int (be 8 a ++ be 8 c) ≡ a * 2 ^ 64 + c
@@ -76,6 +80,18 @@ unfolding int
 int-lengths a c h k =
     int-append 0 (be 8 a) (be 8 c) ∙ int-be 8 (intFrom 0 (be 8 a)) c
     ∙ ap₂ (λ (x y : ℕ). x * 256 ^ 8 + y) (int-be 8 0 a ∙ zero-add (a % 256 ^ 8) ∙ mod-eq-of-lt h) (mod-eq-of-lt k)
+
+-- A single block, as a number.
+pub hash-block : (h z v : ℕ) (s : List ℕ) → v < 256 ^ 16 → s ≡ be 16 v → ghashFrom h z (pad s) (blocks (length s)) ≡ mul (bitXor z v) h
+unfolding int pad
+hash-block h z v s k e =
+    let l : length s ≡ 16 = ap length e ∙ length-be 16 v in
+    let n : blocks (length s) ≡ 1 = ap blocks l in
+    let p : pad s ≡ s = ap (λ (x : ℕ). s ++ replicate (16 * blocks x - x) 0) l ∙ append-nil s in
+    ap₂ (λ (x : List ℕ) (y : ℕ). ghashFrom h z x y) p n
+    ∙ one-block h z 0 s ∙ no-block h _ _
+    ∙ ap (λ (x : List ℕ). mul (bitXor z (int x)) h) (take-all 16 s (omega arith) ∙ e)
+    ∙ ap (λ (x : ℕ). mul (bitXor z x) h) (int-be 16 0 v ∙ zero-add (v % 256 ^ 16) ∙ mod-eq-of-lt k)
 
 pub hash-all : (h : ℕ) (a c : List ℕ) → length a < 2 ^ 61 → length c < 2 ^ 61
     → mul (bitXor (ghashFrom h (ghashFrom h 0 (pad a) (blocks (length a))) (pad c) (blocks (length c))) (8 * length a * 2 ^ 64 + 8 * length c)) h ≡ hashed h a c

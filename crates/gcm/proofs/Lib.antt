@@ -1,5 +1,8 @@
 pub mod Halves
-pub mod Linear
+pub mod Steps
+pub mod Digits
+pub mod WideNumbers
+pub mod Products
 pub mod Counters
 pub mod Hashing
 pub mod Laws

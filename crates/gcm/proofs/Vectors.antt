@@ -1,5 +1,5 @@
--- The test cases 13, 14 and 16 (AES-256) of the GCM submission to NIST, worked out from the definitions. Case 16 has associated
--- data and a last block that is not full.
+-- Of the GCM submission to NIST: the product X1 of test case 2, and the test cases 13, 14 and 16 (AES-256), worked out from the
+-- definitions. Case 16 has associated data and a last block that is not full.
 -- Assumes nothing.
 use Prim.Native.Nat.{ℕ, zero, suc, _+_}
 use mathlib.Core.Bool.{true}
@@ -17,6 +17,10 @@ use Rattle.aes_spec.specs.Cipher.{subBytes, shiftRows, mixColumns, addRoundKey,
 use Rattle.ctr.specs.Ctr.{inc32, keystream, ctr}
 use Rattle.gcm.specs.Field.{next, mulFrom, mul}
 use Rattle.gcm.specs.Gcm.{ghashFrom, ghash, pad, subkey, j0, crypt, hashed, tag, seal, good, plain}
+
+product-2 : mul 0x0388dace60b6a392f328c2b971b2fe78 0x66e94bd4ef8a2c3b884cfa59ca342b2e ≡ 0x5e2ec746917062882c85b0685353deb7
+unfolding next mulFrom mul
+product-2 = refl
 
 case-13 : seal (aes 8 (replicate 32 0)) (replicate 12 0) [] [] ≡ be 16 0x530f8afbc74536b9a963b4f1c4cb738b
 unfolding f.xtimes f.mulBits f.mul sbox words wordBytes subWord rotWord powerOfX rcon temp expansion keyExpansion xors subBytes shiftRows mixColumns addRoundKey afterRounds cipher aes intFrom int be next mulFrom mul inc32 ghashFrom ghash pad keystream ctr subkey j0 crypt hashed tag seal

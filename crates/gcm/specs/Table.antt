@@ -1,24 +1,19 @@
--- The product with one h, eight bits at a time, from a table of 32 elements.
+-- The table of a hash subkey h: sixteen products, of two words each.
 -- Assumes nothing.
-use Prim.Native.Nat.{ℕ, zero, suc, _+_, _*_, _/_, _%_, _^_, _<_}
+use Prim.Native.Nat.{ℕ, _+_, _*_, _^_, _<_}
 use mathlib.Core.Path.{_≡_}
 use mathlib.Core.List.{List}
 use lib.ListN.{getD}
-use Rattle.gcm.specs.Field.{next, mulFrom}
+use Rattle.gcm.specs.Field.{mul}
 
--- n steps of V.
-unfoldable pub nexts : ℕ → ℕ → ℕ
-nexts zero v = v
-nexts (suc n) v = next (nexts n v)
+-- Entry i, a block: its first half stands at the place 2 i, its last half behind it.
+abbrev pub entryOf : List ℕ → ℕ → ℕ
+entryOf m i = getD m (2 * i) 0 * 2 ^ 64 + getD m (2 * i + 1) 0
 
--- The product of the n lowest bits of x alone.
-abbrev pub part : ℕ → ℕ → ℕ → ℕ
-part n x h = mulFrom n x 0 h
+-- The block whose first four bits are i, bit 0 counting 8, the rest zero.
+abbrev pub fourBits : ℕ → ℕ
+fourBits i = i * 2 ^ 124
 
--- The byte of the entry i: four bits as its low half where i is below 16, and as its high half from there on.
-abbrev pub byteOf : ℕ → ℕ
-byteOf i = i % 16 * (1 + 15 * (i / 16))
-
--- The first n entries are right: each is its byte times h.
-pub record Entries (h : ℕ) (hi lo : List ℕ) (n : ℕ) : Type 0 where
-  pub entry : (i : ℕ) → i < n → getD hi i 0 * 2 ^ 64 + getD lo i 0 ≡ part 8 (byteOf i) h
+-- The first n of the sixteen entries are right: each is its four bits times h, by SP 800-38D's product. Entry 8 is h itself.
+pub record Entries (h : ℕ) (m : List ℕ) (n : ℕ) : Type 0 where
+  pub entry : (i : ℕ) → i < n → entryOf m i ≡ mul (fourBits i) h

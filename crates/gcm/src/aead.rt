@@ -1,8 +1,6 @@
 // GCM: the tag, the test of a stored one, and sealing (SP 800-38D, section 7). A sealed text is a ciphertext and its tag.
-// Each function is lent the round table t and the key schedule w, and the hash subkey h of the same key.
-use crate::field::Element;
+// Functions are lent the round table t and the key schedule w, and what hashes also the table m of the hash subkey (`key::prepare`).
 use crate::ghash::hashed;
-use crate::ghash::of_block;
 use crate::ghash::to_block;
 use aes::block::Block;
 use aes::block::add;
@@ -20,7 +18,7 @@ ghost use Rattle.octets.specs.BigEndian.{be};
 ghost use Rattle.aes_spec.specs.RoundTable.{roundTable};
 ghost use Rattle.aes_spec.specs.Cipher.{cipher};
 ghost use Rattle.aes.specs.Blocks.{state};
-ghost use Rattle.gcm.specs.Elements.{value};
+ghost use Rattle.gcm.specs.Keyed.{Keyed};
 ghost use Rattle.gcm.specs.Gcm as spec;
 
 // The counter block of a nonce and a number.
@@ -45,48 +43,39 @@ pub fn crypt(t: &[u32; 256], w: &[u32], nonce: &[u8], src: &[u8], lo: usize, out
     ctr::crypt(t, w, counter(nonce, 2), src, lo, out);
 }
 
-pub fn subkey(t: &[u32; 256], w: &[u32]) -> Element
-    requires { ⌜ now t ≡ roundTable ⌝ }
-    requires { ⌜ 60 ≤ length (now w) ⌝ }
-    ensures { λ r. ⌜ value r ≡ spec.subkey (cipher 14 (now (w .entry))) ⌝ }
-{
-    let zeros = Block {
-        a: 0,
-        b: 0,
-        c: 0,
-        d: 0,
-    };
-    of_block(encrypt(t, w, zeros))
-}
-
 pub fn tag(
     t: &[u32; 256],
     w: &[u32],
-    h: Element,
+    m: &[u64; 32],
     nonce: &[u8],
     aad: &[u8],
     ciphertext: &[u8],
 ) -> Block
-    requires { ⌜ now t ≡ roundTable ⌝ }
-    requires { ⌜ (60 ≤ length (now w)) × (length (now nonce) ≡ 12) ⌝ }
-    requires { ⌜ (value h ≡ spec.subkey (cipher 14 (now w))) × (length (now aad) < 2 ^ 61) × (length (now ciphertext) < 2 ^ 61) ⌝ }
+    requires { ⌜ Keyed (now t) (now w) (now m) ⌝ }
+    requires { ⌜ (length (now nonce) ≡ 12) × (length (now aad) < 2 ^ 61) × (length (now ciphertext) < 2 ^ 61) ⌝ }
     ensures { λ r. ⌜ state r ≡ spec.tag (cipher 14 (now (w .entry))) (now (nonce .entry)) (now (aad .entry)) (now (ciphertext .entry)) ⌝ }
 {
     add(
-        to_block(hashed(h, aad, ciphertext)),
+        to_block(hashed(m, aad, ciphertext)),
         encrypt(t, w, counter(nonce, 1)),
     )
 }
 
 // Is the tag of a sealed text the right one?
-pub fn good(t: &[u32; 256], w: &[u32], h: Element, nonce: &[u8], aad: &[u8], sealed: &[u8]) -> bool
-    requires { ⌜ now t ≡ roundTable ⌝ }
-    requires { ⌜ (60 ≤ length (now w)) × (length (now nonce) ≡ 12) ⌝ }
-    requires { ⌜ (value h ≡ spec.subkey (cipher 14 (now w))) × (length (now aad) < 2 ^ 61) × (length (now sealed) < 2 ^ 61) × (16 ≤ length (now sealed)) ⌝ }
+pub fn good(
+    t: &[u32; 256],
+    w: &[u32],
+    m: &[u64; 32],
+    nonce: &[u8],
+    aad: &[u8],
+    sealed: &[u8],
+) -> bool
+    requires { ⌜ Keyed (now t) (now w) (now m) ⌝ }
+    requires { ⌜ (length (now nonce) ≡ 12) × (length (now aad) < 2 ^ 61) × (length (now sealed) < 2 ^ 61) × (16 ≤ length (now sealed)) ⌝ }
     ensures { λ r. ⌜ r ≡ spec.good (cipher 14 (now (w .entry))) (now (nonce .entry)) (now (aad .entry)) (now (sealed .entry)) ⌝ }
 {
     let n = sealed.len() - 16;
-    let x = tag(t, w, h, nonce, aad, &sealed[..n]);
+    let x = tag(t, w, m, nonce, aad, &sealed[..n]);
     equal(x, block_at(sealed, n))
 }
 
@@ -94,20 +83,19 @@ pub fn good(t: &[u32; 256], w: &[u32], h: Element, nonce: &[u8], aad: &[u8], sea
 pub fn seal(
     t: &[u32; 256],
     w: &[u32],
-    h: Element,
+    m: &[u64; 32],
     nonce: &[u8],
     aad: &[u8],
     cleartext: &[u8],
     out: &mut [u8],
 )
-    requires { ⌜ now t ≡ roundTable ⌝ }
-    requires { ⌜ (60 ≤ length (now w)) × (length (now nonce) ≡ 12) ⌝ }
-    requires { ⌜ (value h ≡ spec.subkey (cipher 14 (now w))) × (length (now aad) < 2 ^ 61) × (length (now cleartext) < 2 ^ 61) ⌝ }
+    requires { ⌜ Keyed (now t) (now w) (now m) ⌝ }
+    requires { ⌜ (length (now nonce) ≡ 12) × (length (now aad) < 2 ^ 61) × (length (now cleartext) < 2 ^ 61) ⌝ }
     requires { ⌜ length (now out) ≡ length (now cleartext) + 16 ⌝ }
     ensures { λ _. ⌜ now (out .exit) ≡ spec.seal (cipher 14 (now (w .entry))) (now (nonce .entry)) (now (aad .entry)) (now (cleartext .entry)) ⌝ }
 {
     let n = cleartext.len();
     crypt(t, w, nonce, cleartext, 0, &mut out[..n]);
-    let x = tag(t, w, h, nonce, aad, &out[..n]);
+    let x = tag(t, w, m, nonce, aad, &out[..n]);
     copy_at(&to_bytes(x), out, n);
 }

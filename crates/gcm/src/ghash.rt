@@ -1,15 +1,15 @@
 // GHASH (SP 800-38D, 6.4) of parts of slices.
 use crate::field::Element;
 use crate::field::add;
-use crate::table::fill;
 use crate::table::times;
 use aes::block::Block;
 use aes::block::block_at;
+use aes::block::to_bytes;
 use octets::slice::copy_at;
 ghost use mathlib.Core.Path.{_≡_};
 ghost use mathlib.Core.List.{_++_};
-ghost use Prim.Native.Nat.{_<_, _≤_, _-_, _^_};
-ghost use lib.ListN.{length, replicate};
+ghost use Prim.Native.Nat.{ℕ, _<_, _≤_, _-_, _*_, _^_};
+ghost use lib.ListN.{length, take, drop, replicate};
 ghost use Rattle.octets.specs.BigEndian.{int, be};
 ghost use Rattle.aes.specs.Blocks.{state};
 ghost use Rattle.ctr.specs.Ctr.{blocks};
@@ -47,55 +47,50 @@ fn padded(s: &[u8]) -> Block
     block_at(&buffer, 0)
 }
 
-// hi and lo are the table of h.
-fn step(h: Element, hi: &[u64; 32], lo: &[u64; 32], y: Element, x: Block) -> Element
-    requires { ⌜ Entries (value h) (now hi) (now lo) 32 ⌝ }
-    ensures { λ r. ⌜ value r ≡ spec.ghashStep (value h) (value y) (state x) ⌝ }
+// Block i of s, the last one filled up.
+fn block_of(s: &[u8], i: usize) -> Block
+    requires { ⌜ 16 * i < length (now s) ⌝ }
+    ensures { λ r. ⌜ state r ≡ take 16 (drop (16 * i) (spec.pad (now (s .entry)))) ⌝ }
 {
-    times(h, hi, lo, add(y, of_block(x)))
+    let a = 16 * i;
+    if s.len() - a < 16 {
+        return padded(&s[a..]);
+    }
+    block_at(s, a)
 }
 
-// From y on, over the blocks of s, the last one filled up.
-fn absorb(h: Element, hi: &[u64; 32], lo: &[u64; 32], y: Element, s: &[u8]) -> Element
-    requires { ⌜ Entries (value h) (now hi) (now lo) 32 ⌝ }
-    ensures { λ r. ⌜ value r ≡ spec.ghashFrom (value h) (value y) (spec.pad (now (s .entry))) (blocks (length (now (s .entry)))) ⌝ }
+// One block more of the hash, under the h of the table m.
+fn step(m: &[u64; 32], y: Element, x: Block) -> Element
+    ensures { λ r. ⌜ ((h : ℕ) → Entries h (now (m .entry)) 16 → value r ≡ spec.ghashStep h (value y) (state x)) ⌝ }
 {
-    let n = s.len() / 16;
+    times(m, add(y, of_block(x)))
+}
+
+// From y on, over the blocks of s. `step`, and so `times`, is called in this one place, so that the compiler makes it part of the loop.
+fn absorb(m: &[u64; 32], y: Element, s: &[u8]) -> Element
+    requires { ⌜ length (now s) < 2 ^ 61 ⌝ }
+    ensures { λ r. ⌜ ((h : ℕ) → Entries h (now (m .entry)) 16 → value r ≡ spec.ghashFrom h (value y) (spec.pad (now (s .entry))) (blocks (length (now (s .entry))))) ⌝ }
+{
+    let n = (s.len() + 15) / 16;
     let mut z = y;
     let mut i = 0;
     while i < n {
-        z = step(h, hi, lo, z, block_at(s, 16 * i));
+        z = step(m, z, block_of(s, i));
         i += 1;
-    }
-    if 16 * n < s.len() {
-        let last = 16 * n;
-        return step(h, hi, lo, z, padded(&s[last..]));
     }
     z
 }
 
-// The hash that the tag is made of: of associated data, ciphertext and both lengths in bits. hi and lo are the table of h.
-fn hashed_by(h: Element, hi: &[u64; 32], lo: &[u64; 32], aad: &[u8], ciphertext: &[u8]) -> Element
-    requires { ⌜ Entries (value h) (now hi) (now lo) 32 ⌝ }
+// The hash that the tag is made of: of associated data, ciphertext and both lengths in bits, under the h of the table m.
+pub fn hashed(m: &[u64; 32], aad: &[u8], ciphertext: &[u8]) -> Element
     requires { ⌜ (length (now aad) < 2 ^ 61) × (length (now ciphertext) < 2 ^ 61) ⌝ }
-    ensures { λ r. ⌜ value r ≡ spec.hashed (value h) (now (aad .entry)) (now (ciphertext .entry)) ⌝ }
+    ensures { λ r. ⌜ ((h : ℕ) → Entries h (now (m .entry)) 16 → value r ≡ spec.hashed h (now (aad .entry)) (now (ciphertext .entry))) ⌝ }
 {
-    let y = absorb(h, hi, lo, Element { hi: 0, lo: 0 }, aad);
-    let z = absorb(h, hi, lo, y, ciphertext);
     let lengths = Element {
         hi: 8 * (aad.len() as u64),
         lo: 8 * (ciphertext.len() as u64),
     };
-    times(h, hi, lo, add(z, lengths))
-}
-
-// The same, with the table made anew.
-pub fn hashed(h: Element, aad: &[u8], ciphertext: &[u8]) -> Element
-    requires { ⌜ (length (now aad) < 2 ^ 61) × (length (now ciphertext) < 2 ^ 61) ⌝ }
-    ensures { λ r. ⌜ value r ≡ spec.hashed (value h) (now (aad .entry)) (now (ciphertext .entry)) ⌝ }
-{
-    let mut hi = [0u64; 32];
-    let mut lo = [0u64; 32];
-    fill(h, &mut hi, &mut lo);
-    hashed_by(h, &hi, &lo, aad, ciphertext)
+    let y = absorb(m, Element { hi: 0, lo: 0 }, aad);
+    let z = absorb(m, y, ciphertext);
+    absorb(m, z, &to_bytes(to_block(lengths)))
 }

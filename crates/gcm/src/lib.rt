@@ -2,4 +2,6 @@
 pub mod aead;
 pub mod field;
 pub mod ghash;
+pub mod key;
 pub mod table;
+pub mod wide;

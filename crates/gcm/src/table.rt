@@ -1,103 +1,101 @@
-// The product with one h, eight bits at a time. The table of h has, of each four bits, the product with them as the low and as
-// the high half of a byte.
+// The product with a hash subkey h, four bits at a time, from a table of sixteen entries that is made once for h. Each turn takes a
+// byte from each half of the block, as two digits of four bits.
 use crate::field::Element;
 use crate::field::add;
 use crate::field::next;
 use crate::field::scale;
+use crate::wide::Wide;
+use crate::wide::plus;
+use crate::wide::reduce;
+use crate::wide::right4;
+use crate::wide::right8;
+use crate::wide::sum;
 ghost use mathlib.Core.Path.{_≡_};
-ghost use Prim.Native.Nat.{_<_};
+ghost use Prim.Native.Nat.{ℕ, _*_, _/_, _^_, _<_};
 ghost use lib.ListN.{length};
 ghost use lib.Bits.{bitXor};
 ghost use Rattle.gcm.specs.Field.{mul};
-ghost use Rattle.gcm.specs.Elements.{value};
-ghost use Rattle.gcm.specs.Table.{nexts, part, Entries};
+ghost use Rattle.gcm.specs.Elements.{value, wide};
+ghost use Rattle.gcm.specs.Digits.{nexts};
+ghost use Rattle.gcm.specs.Table.{entryOf, fourBits, Entries};
 
-// Eight steps of V.
-fn next8(v: Element) -> Element
-    ensures { λ r. ⌜ value r ≡ nexts 8 (value v) ⌝ }
-{
-    let b = v.lo % 256;
-    let d = (b * 128) ^ (b * 64) ^ (b * 32) ^ b;
-    Element {
-        hi: (v.hi / 256) ^ (d * 562949953421312),
-        lo: v.lo / 256 + v.hi % 256 * 72057594037927936,
-    }
-}
-
-// The product of the byte b, bit by bit.
-fn entry(b: u64, h: Element) -> Element
-    ensures { λ r. ⌜ value r ≡ part 8 b (value h) ⌝ }
+// The multiple of h that entry i is: the block whose first four bits are i, times h, bit by bit.
+fn multiple(i: u64, h: Element) -> Element
+    ensures { λ r. ⌜ value r ≡ mul (fourBits i) (value h) ⌝ }
 {
     let mut z = Element { hi: 0, lo: 0 };
     let mut v = h;
-    let mut n: u64 = 8;
-    while 0 < n {
-        n -= 1;
-        z = add(z, scale((b >> n) % 2, v));
+    let mut n: u64 = 0;
+    while n < 4 {
+        z = add(z, scale((i >> (3 - n)) % 2, v));
         v = next(v);
+        n += 1;
     }
     z
 }
 
-// Writes the table of h: the first halves of its elements to hi, the last ones to lo.
-pub fn fill(h: Element, hi: &mut [u64], lo: &mut [u64])
-    requires { ⌜ (length (now hi) ≡ 32) × (length (now lo) ≡ 32) ⌝ }
-    ensures { λ _. ⌜ Entries (value h) (now (hi .exit)) (now (lo .exit)) 32 ⌝ }
+// Writes the table of h.
+pub fn fill(h: Element, m: &mut [u64])
+    requires { ⌜ length (now m) ≡ 32 ⌝ }
+    ensures { λ _. ⌜ Entries (value h) (now (m .exit)) 16 ⌝ }
 {
     let mut i = 0;
-    while i < 32 {
-        let e = entry((i % 16 * (1 + 15 * (i / 16))) as u64, h);
-        hi[i] = e.hi;
-        lo[i] = e.lo;
+    while i < 16 {
+        let e = multiple(i as u64, h);
+        m[2 * i] = e.hi;
+        m[2 * i + 1] = e.lo;
         i += 1;
     }
 }
 
-// The product of the byte b.
-fn byte(h: Element, hi: &[u64; 32], lo: &[u64; 32], b: usize) -> Element
-    requires { ⌜ Entries (value h) (now hi) (now lo) 32 ⌝ }
-    requires { ⌜ b < 256 ⌝ }
-    ensures { λ r. ⌜ value r ≡ part 8 b (value h) ⌝ }
+fn entry(m: &[u64; 32], i: usize) -> Element
+    requires { ⌜ i < 16 ⌝ }
+    ensures { λ r. ⌜ value r ≡ entryOf (now (m .entry)) i ⌝ }
 {
-    let i = 16 + b / 16;
-    let j = b % 16;
-    add(
-        Element {
-            hi: hi[i],
-            lo: lo[i],
-        },
-        Element {
-            hi: hi[j],
-            lo: lo[j],
-        },
-    )
+    let p = 2 * i;
+    let q = p + 1;
+    Element { hi: m[p], lo: m[q] }
 }
 
-// The product of the 64 bits w, and 64 steps of z.
-fn half(h: Element, hi: &[u64; 32], lo: &[u64; 32], z: Element, w: u64) -> Element
-    requires { ⌜ Entries (value h) (now hi) (now lo) 32 ⌝ }
-    ensures { λ r. ⌜ value r ≡ bitXor (part 64 w (value h)) (nexts 64 (value z)) ⌝ }
+// Eight places to the right, and then entry i is added at the first place, and entry j 64 places further right.
+fn step(m: &[u64; 32], z: Wide, i: usize, j: usize) -> Wide
+    requires { ⌜ (i < 16) × (j < 16) ⌝ }
+    ensures { λ r. ⌜ wide r ≡ bitXor (wide z / 2 ^ 8) (bitXor (entryOf (now (m .entry)) i * 2 ^ 64) (entryOf (now (m .entry)) j) * 2 ^ 64) ⌝ }
 {
-    let mut y = z;
-    let mut v = w;
-    let mut i: usize = 0;
-    while i < 8 {
-        y = add(byte(h, hi, lo, (v % 256) as usize), next8(y));
+    plus(right8(z), entry(m, i), entry(m, j))
+}
+
+// The product, not yet fully reduced. p adds up the entries of the high digits of the bytes, q those of the low digits, which stand
+// four places further right; both from the last byte on.
+fn product(m: &[u64; 32], x: Element) -> Wide
+    ensures { λ r. ⌜ ((h : ℕ) → Entries h (now (m .entry)) 16 → nexts 128 (wide r) ≡ mul (value x) h) ⌝ }
+{
+    let zero = Wide {
+        a: 0,
+        b: 0,
+        c: 0,
+        d: 0,
+    };
+    let mut p = zero;
+    let mut q = zero;
+    let mut v = x.hi;
+    let mut w = x.lo;
+    let mut n: usize = 0;
+    while n < 8 {
+        let i = (v % 256) as usize;
+        let j = (w % 256) as usize;
+        p = step(m, p, i / 16, j / 16);
+        q = step(m, q, i % 16, j % 16);
         v = v / 256;
-        i += 1;
+        w = w / 256;
+        n += 1;
     }
-    y
+    sum(p, right4(q))
 }
 
-pub fn times(h: Element, hi: &[u64; 32], lo: &[u64; 32], x: Element) -> Element
-    requires { ⌜ Entries (value h) (now hi) (now lo) 32 ⌝ }
-    ensures { λ r. ⌜ value r ≡ mul (value x) (value h) ⌝ }
+// X • H (6.3), for the hash subkey whose table m is.
+pub fn times(m: &[u64; 32], x: Element) -> Element
+    ensures { λ r. ⌜ ((h : ℕ) → Entries h (now (m .entry)) 16 → value r ≡ mul (value x) h) ⌝ }
 {
-    half(
-        h,
-        hi,
-        lo,
-        half(h, hi, lo, Element { hi: 0, lo: 0 }, x.lo),
-        x.hi,
-    )
+    reduce(product(m, x))
 }

@@ -1,9 +1,8 @@
 // AES-256-GCM.
-use aes::key::expand;
 use gcm::aead::crypt;
 use gcm::aead::good;
 use gcm::aead::seal;
-use gcm::aead::subkey;
+use gcm::key::prepare;
 ghost use mathlib.Core.Path.{_≡_};
 ghost use mathlib.Core.Bool.{cond};
 ghost use Prim.Native.Nat.{_<_, _≤_, _+_, _-_, _^_};
@@ -36,9 +35,9 @@ fn seal_under(key: &[u8], nonce: &[u8], aad: &[u8], cleartext: &[u8], out: &mut 
 {
     let t = aes::round_table::table();
     let mut w = [0u32; 60];
-    expand(key, &mut w);
-    let h = subkey(&t, &w);
-    seal(&t, &w, h, nonce, aad, cleartext, out);
+    let mut m = [0u64; 32];
+    prepare(&t, key, &mut w, &mut m);
+    seal(&t, &w, &m, nonce, aad, cleartext, out);
 }
 
 // The ciphertext, and then the tag.
@@ -72,9 +71,9 @@ fn open_under(key: &[u8], nonce: &[u8], aad: &[u8], sealed: &[u8], out: &mut [u8
 {
     let t = aes::round_table::table();
     let mut w = [0u32; 60];
-    expand(key, &mut w);
-    let h = subkey(&t, &w);
-    if !good(&t, &w, h, nonce, aad, sealed) {
+    let mut m = [0u64; 32];
+    prepare(&t, key, &mut w, &mut m);
+    if !good(&t, &w, &m, nonce, aad, sealed) {
         return false;
     }
     let n = sealed.len() - 16;

@@ -2,15 +2,13 @@
 use crate::stored::good;
 use crate::stored::open_part;
 use crate::stored::seal;
-use aes::key::expand;
-use gcm::aead::subkey;
+use gcm::key::prepare;
 use octets::slice::copy_at;
 use octets::slice::equal;
 ghost use mathlib.Core.Path.{_≡_};
 ghost use mathlib.Core.Bool.{cond};
 ghost use lib.ListN.{length};
 ghost use Rattle.aes_spec.specs.RoundTable.{roundTable};
-ghost use Rattle.frame.specs.Frame.{Head};
 ghost use Rattle.siv_gcm.specs.SivGcm.{headWith, headerOf, headOf, headerGood};
 
 // Writes the header of a nonce and a content key to out, which has just its length.
@@ -20,11 +18,11 @@ pub fn seal_header(t: &[u32; 256], enc: &[u8], nonce: &[u8], key: &[u8], out: &m
     ensures { λ _. ⌜ now (out .exit) ≡ headerOf (now (enc .entry)) (headWith (now (nonce .entry)) (now (key .entry))) ⌝ }
 {
     let mut w = [0u32; 60];
-    expand(enc, &mut w);
-    let h = subkey(t, &w);
+    let mut m = [0u64; 32];
+    prepare(t, enc, &mut w, &mut m);
     let mut cleartext = [255u8; 40];
     copy_at(key, &mut cleartext, 8);
-    seal(t, &w, h, nonce, b"", &cleartext, out);
+    seal(t, &w, &m, nonce, b"", &cleartext, out);
 }
 
 // Writes the content key of a good header to key. Of a header that is not good nothing is written.
@@ -35,9 +33,9 @@ pub fn open_header(t: &[u32; 256], enc: &[u8], header: &[u8], key: &mut [u8]) ->
     ensures { λ r. ⌜ now (key .exit) ≡ cond r (headOf (now (enc .entry)) (now (header .entry)) .key) (now (key .entry)) ⌝ }
 {
     let mut w = [0u32; 60];
-    expand(enc, &mut w);
-    let h = subkey(t, &w);
-    if !good(t, &w, h, b"", header) {
+    let mut m = [0u64; 32];
+    prepare(t, enc, &mut w, &mut m);
+    if !good(t, &w, &m, b"", header) {
         return false;
     }
     let mut cleartext = [0u8; 40];

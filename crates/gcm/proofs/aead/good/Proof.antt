@@ -1,6 +1,6 @@
 -- `good`: the tag of the ciphertext is compared with the last sixteen bytes.
 -- Assumes nothing.
-use Prim.Native.Nat.{ℕ, _-_, _≤_}
+use Prim.Native.Nat.{_-_, _≤_}
 use mathlib.Core.Path.{_≡_, sym, _∙_, ap₂}
 use borrow.Author.Needs.{needs}
 use native.Mathlib.Omega.{arith}
@@ -24,7 +24,7 @@ tag-requires c κs =
     let p = c .before .before .before .before .before .pre in
     let s = c .before .before .before .before .before .args .sealed .now in
     let e : length (take (length s - 16) s) ≡ length s - 16 = length-take-le (length s - 16) s (omega arith) in
-    (p .0, (p .1 .0, (p .1 .1 .0, p .1 .1 .1, omega (arith, e, p .1 .1))))
+    (p .0, (p .1 .0, p .1 .1, omega (arith, e, p .1)))
 
 block-at-requires : tie.Need-block-at-requires
 block-at-requires c κs = search needs

@@ -55,7 +55,7 @@ crypt-requires c κs =
     let s = c .before .before .before .before .before .before in
     let p = s .pre in
     let n : length (take (length (s .args .cleartext .now)) (s .args .out .now)) ≡ length (s .args .cleartext .now) = length-take-le (length (s .args .cleartext .now)) (s .args .out .now) (omega arith) in
-    (p .0, (p .1 .0 .0, p .1 .0 .1, omega (arith, n)))
+    (p .0 .0, (p .0 .1, p .1 .0 .0, omega (arith, n)))
 
 slice-reshare-prefix-tag : tie.Need-slice-reshare-prefix-tag
 slice-reshare-prefix-tag c = search needs
@@ -67,7 +67,7 @@ tag-requires : tie.Need-tag-requires
 tag-requires c κs =
     let p = c .before .before .before .before .before .before .before .before .before .before .pre in
     let n = ap length (front (c .before .before .before)) ∙ text-length (c .before .before .before) in
-    (p .0, (p .1 .0, (p .1 .1 .0 .0, p .1 .1 .0 .1, omega (arith, n, p .1 .1 .0 .2))))
+    (p .0, (p .1 .0 .0, p .1 .0 .1, omega (arith, n, p .1 .0)))
 
 to-bytes-requires : tie.Need-to-bytes-requires
 to-bytes-requires c κs = search needs
@@ -92,7 +92,7 @@ returns c =
     let m : length t ≡ 16 = ap length (b .to-bytes .ensures) in
     let e = spec.tag (cipher 14 (x .w .now)) (x .nonce .now) (x .aad .now) in
     c .before .before .copy-at .ensures
-    ∙ placed-behind y t (x .out .now) (length (x .cleartext .now)) (text-length k) (omega (arith, k .before .before .before .before .before .before .before .pre .1 .1 .1))
+    ∙ placed-behind y t (x .out .now) (length (x .cleartext .now)) (text-length k) (omega (arith, k .before .before .before .before .before .before .before .pre .1 .1))
     ∙ ap₂ (λ (u v : List ℕ). u ++ v) (text k) (b .to-bytes .ensures ∙ b .before .tag .ensures ∙ ap e (front k ∙ text k))
 
 pub seal-spec : {M : Type 1} → statement M

@@ -1,6 +1,5 @@
 -- `tag`: the hash, with the first block of the key stream added.
 -- Assumes nothing.
-use Prim.Native.Nat.{ℕ}
 use mathlib.Core.Path.{_∙_, ap, ap₂}
 use borrow.Author.Needs.{needs}
 use Rattle.octets.specs.BigEndian.{be}
@@ -34,9 +33,9 @@ returns c =
     let b = c .before .before .before in
     c .add .ensures
     ∙ ap₂ xors
-    (b .to-block .ensures ∙ ap (be 16) (b .before .hashed .ensures ∙ ap (λ (h : ℕ). spec.hashed h (x .aad .now) (x .ciphertext .now)) (s .pre .1 .1 .0)))
+    (b .to-block .ensures ∙ ap (be 16) (b .before .hashed .ensures (spec.subkey e) (s .pre .0 .2)))
     (c .before .encrypt .ensures ∙ ap e (c .before .before .counter .ensures))
-    ∙ tag-is (x .nonce .now) (s .pre .1 .0 .1) e (x .aad .now) (x .ciphertext .now)
+    ∙ tag-is (x .nonce .now) (s .pre .1 .0) e (x .aad .now) (x .ciphertext .now)
 
 pub tag-spec : {M : Type 1} → statement M
 tag-spec =

@@ -19,9 +19,9 @@ times-requires : tie.Need-times-requires
 times-requires c κs = search needs
 
 returns : tie.Need-returns
-returns c =
+returns c h e =
     let x = c .before .before .before .args in
-    c .times .ensures ∙ ap (λ (z : ℕ). spec.mul z (value (x .h))) (c .before .add .ensures ∙ ap (bitXor (value (x .y))) (c .before .before .of-block .ensures))
+    c .times .ensures h e ∙ ap (λ (z : ℕ). spec.mul z h) (c .before .add .ensures ∙ ap (bitXor (value (x .y))) (c .before .before .of-block .ensures))
 
 pub step-spec : {M : Type 1} → statement M
 step-spec = tie.close (tie.spec of-block-requires add-requires times-requires returns)

@@ -3,7 +3,7 @@
 use borrow.Author.Needs.{needs}
 use Rattle.siv_gcm.proofs.header.open_header.Statement.{statement}
 use Rattle.siv_gcm.proofs.header.open_header.Tie as tie
-use Prim.Native.Nat.{ℕ, _-_, _≤_}
+use Prim.Native.Nat.{ℕ, _-_}
 use mathlib.Core.Path.{_≡_, refl, sym, _∙_, ap, ap₂}
 use mathlib.Core.Bool.{Bool, true, false, _&&_}
 use mathlib.Core.List.{List, []}
@@ -13,35 +13,34 @@ use lib.ListN.{length, take, drop, length-drop}
 use lib.Seq.{length-take-le, take-all}
 use Rattle.octets.specs.Bytes.{same}
 use Rattle.octets.proofs.Lists.{placed-all, part-rest}
-use Rattle.aes_spec.specs.Cipher.{cipher, aes}
-use Rattle.aes.proofs.Ciphers.{under-key}
+use Rattle.aes_spec.specs.Cipher.{aes}
 use Rattle.siv_gcm.specs.SivGcm.{opens, opened, reserved, headOf, headerGood}
 use Rattle.siv_gcm.proofs.Sealed.{length-opened}
 
 tagged : (c : tie.After-good2) →
-    let x = c .before .before .before .before .before .before .before .before .before .before .before .args in
+    let x = c .before .before .before .before .before .before .before .before .before .before .before .before .args in
     c .good2 .result ≡ opens (aes 8 (x .enc .now)) [] (x .header .now)
 tagged c =
     let k = c .before .before .before .before .before .before in
-    let x = k .before .before .before .before .before .args in
-    c .good2 .ensures ∙ ap (λ (e : List ℕ → List ℕ). opens e [] (x .header .now)) (under-key _ _ (k .expand .ensures))
+    let x = k .before .before .before .before .before .before .args in
+    c .good2 .ensures ∙ ap (λ (e : List ℕ → List ℕ). opens e [] (x .header .now)) (k .prepare .ensures .1)
 
 -- the cleartext of the header
 clear : (c : tie.After-open-part) →
-    let x = c .before .before .before .before .before .before .before .before .before .before .before .before .before .before .before .args in
+    let x = c .before .before .before .before .before .before .before .before .before .before .before .before .before .before .before .before .args in
     c .open-part .last .1 .1 .1 .1 .0 ≡ opened (aes 8 (x .enc .now)) (x .header .now)
 clear c =
     let k = c .before .before .before .before .before .before .before .before .before .before in
-    let x = k .before .before .before .before .before in
+    let x = k .before .before .before .before .before .before in
     let b = x .args .header .now in
     let n = length-opened (x .args .enc .now) b in
     c .open-part .ensures
-    ∙ ap (λ (e : List ℕ → List ℕ). take 40 (opened e b)) (under-key _ _ (k .expand .ensures))
+    ∙ ap (λ (e : List ℕ → List ℕ). take 40 (opened e b)) (k .prepare .ensures .1)
     ∙ take-all 40 (opened (aes 8 (x .args .enc .now)) b) (omega (arith, n, x .pre .1))
 
 cleartext-length : (c : tie.After-open-part) → length (c .open-part .last .1 .1 .1 .1 .0) ≡ 40
 cleartext-length c =
-    let x = c .before .before .before .before .before .before .before .before .before .before .before .before .before .before .before in
+    let x = c .before .before .before .before .before .before .before .before .before .before .before .before .before .before .before .before in
     let n = length-opened (x .args .enc .now) (x .args .header .now) in
     ap length (clear c) ∙ n ∙ omega (arith, x .pre .1)
 
@@ -50,21 +49,18 @@ reserved-length c = length-take-le 8 (c .open-part .last .1 .1 .1 .1 .0) (omega 
 
 -- the test of the eight bytes
 reserved-tested : (c : tie.After-equal) →
-    let x = c .before .before .before .before .before .before .before .before .before .before .before .before .before .before .before .before .before .before .before .args in
+    let x = c .before .before .before .before .before .before .before .before .before .before .before .before .before .before .before .before .before .before .before .before .args in
     c .equal .result ≡ same (take 8 (opened (aes 8 (x .enc .now)) (x .header .now))) reserved
 reserved-tested c = c .equal .ensures ∙ ap (λ (l : List ℕ). same (take 8 l) reserved) (clear (c .before .before .before .before))
 
-slice-aggregate-expand : tie.Need-slice-aggregate-expand
-slice-aggregate-expand c = search needs
+slice-aggregate-prepare : tie.Need-slice-aggregate-prepare
+slice-aggregate-prepare c = search needs
 
-expand-requires : tie.Need-expand-requires
-expand-requires c κs = search needs
+slice-aggregate-prepare-2 : tie.Need-slice-aggregate-prepare-2
+slice-aggregate-prepare-2 c = search needs
 
-slice-aggregate-subkey : tie.Need-slice-aggregate-subkey
-slice-aggregate-subkey c = search needs
-
-subkey-requires : tie.Need-subkey-requires
-subkey-requires c κs = search needs
+prepare-requires : tie.Need-prepare-requires
+prepare-requires c κs = search needs
 
 slice-aggregate-good : tie.Need-slice-aggregate-good
 slice-aggregate-good c = search needs
@@ -78,7 +74,7 @@ good-requires c κs = search needs
 returns : tie.Need-returns
 unfolding headerGood
 returns c =
-    let x = c .before .before .before .before .before .before .before .before .before .before .before .before .args in
+    let x = c .before .before .before .before .before .before .before .before .before .before .before .before .before .args in
     let b = x .header .now in
     let o : opens (aes 8 (x .enc .now)) [] b ≡ false = sym (tagged (c .before)) ∙ not-true (c .before .good2 .result) (c .if1 .taken) in
     (sym (ap (λ (t : Bool). t && same (take 8 (opened (aes 8 (x .enc .now)) b)) reserved) o), refl)
@@ -92,7 +88,7 @@ slice-aggregate-open-part-2 c = search needs
 open-part-requires : tie.Need-open-part-requires
 open-part-requires c κs =
     let g = c .before .before .before in
-    let i = g .before .before .before .before .before .before .before .before .before .before .before in
+    let i = g .before .before .before .before .before .before .before .before .before .before .before .before in
     ((i .pre .0, search needs, ([], sym (g .good2 .ensures) ∙ not-false (g .good2 .result) (c .before .before .if1 .left))), omega (arith, i .pre .1))
 
 array-share-prefix-cleartext : tie.Need-array-share-prefix-cleartext
@@ -111,7 +107,7 @@ returns-2 : tie.Need-returns-2
 unfolding headerGood
 returns-2 c =
     let g = c .before .before .before .before .before .before .before .before in
-    let x = g .before .before .before .before .before .before .before .before .before .before .before .before .args in
+    let x = g .before .before .before .before .before .before .before .before .before .before .before .before .before .args in
     let o : opens (aes 8 (x .enc .now)) [] (x .header .now) ≡ true = sym (tagged (g .before)) ∙ not-false (g .before .good2 .result) (g .if1 .left) in
     let r = sym (reserved-tested (c .before)) ∙ not-true (c .before .equal .result) (c .if2 .taken) in
     (sym (ap₂ _&&_ o r), refl)
@@ -136,7 +132,7 @@ unfolding headerGood headOf
 returns-3 c =
     let k = c .before .before .before .before .before .before in
     let g = k .before .before .before .before .before .before .before .before in
-    let i = g .before .before .before .before .before .before .before .before .before .before .before .before in
+    let i = g .before .before .before .before .before .before .before .before .before .before .before .before .before in
     let x = i .args in
     let o : opens (aes 8 (x .enc .now)) [] (x .header .now) ≡ true = sym (tagged (g .before)) ∙ not-false (g .before .good2 .result) (g .if1 .left) in
     let r = sym (reserved-tested (k .before)) ∙ not-false (k .before .equal .result) (k .if2 .left) in
@@ -151,10 +147,9 @@ pub open-header-spec : {M : Type 1} → statement M
 open-header-spec =
     tie.close
     (tie.spec
-    slice-aggregate-expand
-    expand-requires
-    slice-aggregate-subkey
-    subkey-requires
+    slice-aggregate-prepare
+    slice-aggregate-prepare-2
+    prepare-requires
     slice-aggregate-good
     slice-aggregate-good-2
     good-requires

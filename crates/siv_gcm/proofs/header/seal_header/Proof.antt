@@ -3,33 +3,27 @@
 use borrow.Author.Needs.{needs}
 use Rattle.siv_gcm.proofs.header.seal_header.Statement.{statement}
 use Rattle.siv_gcm.proofs.header.seal_header.Tie as tie
-use Rattle.siv_gcm.proofs.header.seal_header.Reads as reads
 use Prim.Native.Nat.{ℕ, _+_}
-use mathlib.Core.Path.{_≡_, refl, sym, _∙_, ap, ap₂}
+use mathlib.Core.Path.{_≡_, _∙_, ap, ap₂}
 use mathlib.Core.List.{List, [], _++_, append-nil}
 use native.Mathlib.Omega.{arith}
-use lib.ListN.{length, take, drop, replicate}
+use lib.ListN.{length, replicate}
 use Rattle.octets.specs.Bytes.{placed}
 use Rattle.octets.proofs.Lists.{drop-all}
-use Rattle.aes_spec.specs.Cipher.{cipher, aes}
-use Rattle.aes.proofs.Ciphers.{under-key}
 use Rattle.siv_gcm.specs.SivGcm.{sealed, reserved, headerOf}
 
 -- the content key behind the eight bytes
 behind : (k : List ℕ) → length k ≡ 32 → placed k 8 (replicate 40 255) ≡ reserved ++ k
 behind k h = ap (λ (l : List ℕ). reserved ++ k ++ l) (drop-all (8 + length k) (replicate 40 255) (omega arith)) ∙ ap (λ (l : List ℕ). reserved ++ l) (append-nil k)
 
-slice-aggregate-expand : tie.Need-slice-aggregate-expand
-slice-aggregate-expand c = search needs
+slice-aggregate-prepare : tie.Need-slice-aggregate-prepare
+slice-aggregate-prepare c = search needs
 
-expand-requires : tie.Need-expand-requires
-expand-requires c κs = search needs
+slice-aggregate-prepare-2 : tie.Need-slice-aggregate-prepare-2
+slice-aggregate-prepare-2 c = search needs
 
-slice-aggregate-subkey : tie.Need-slice-aggregate-subkey
-slice-aggregate-subkey c = search needs
-
-subkey-requires : tie.Need-subkey-requires
-subkey-requires c κs = search needs
+prepare-requires : tie.Need-prepare-requires
+prepare-requires c κs = search needs
 
 slice-aggregate-copy-at : tie.Need-slice-aggregate-copy-at
 slice-aggregate-copy-at c = search needs
@@ -48,8 +42,9 @@ slice-aggregate-seal-3 c = search needs
 
 seal-requires : tie.Need-seal-requires
 seal-requires c κs =
-    let p = c .before .before .before .before .before .before .before .before .before .before .before .before .before .before .before .before .pre in
-    ((p .0, search needs, c .before .before .before .before .before .before .before .subkey .ensures), (p .1 .1, search needs, search needs, search needs))
+    let k = c .before .before .before .before .before .before .before .before .before .before in
+    let p = k .before .before .before .before .before .before .before .pre in
+    (k .prepare .ensures .0, (p .1 .1, search needs, search needs, search needs))
 
 same-length : tie.Need-same-length
 same-length c = search needs
@@ -58,19 +53,18 @@ returns : tie.Need-returns
 unfolding headerOf
 returns c =
     let k = c .before .before .before .before .before .before .before .before .before .before .before .before .before in
-    let x = k .before .before .before .before .before .before in
+    let x = k .before .before .before .before .before .before .before in
     c .before .before .seal .ensures
-    ∙ ap₂ (λ (e : List ℕ → List ℕ) (s : List ℕ). sealed e [] (x .args .nonce .now) s) (under-key _ _ (k .expand .ensures))
-    (c .before .before .before .before .before .before .before .before .copy-at .ensures ∙ behind (x .args .key .now) (x .pre .1 .2))
+    ∙ ap₂ (λ (e : List ℕ → List ℕ) (s : List ℕ). sealed e [] (x .args .nonce .now) s) (k .prepare .ensures .1)
+    (c .before .before .before .before .before .before .before .before .before .copy-at .ensures ∙ behind (x .args .key .now) (x .pre .1 .2))
 
 pub seal-header-spec : {M : Type 1} → statement M
 seal-header-spec =
     tie.close
     (tie.spec
-    slice-aggregate-expand
-    expand-requires
-    slice-aggregate-subkey
-    subkey-requires
+    slice-aggregate-prepare
+    slice-aggregate-prepare-2
+    prepare-requires
     slice-aggregate-copy-at
     copy-at-requires
     slice-aggregate-seal

@@ -5,8 +5,8 @@ use borrow.Author.Needs.{needs}
 use Rattle.octets.specs.BigEndian.{int}
 use Rattle.octets.specs.Words.{wordBytes}
 use Rattle.gcm.specs.Gcm as spec
-use Rattle.gcm.proofs.aead.subkey.Statement.{statement}
-use Rattle.gcm.proofs.aead.subkey.Tie as tie
+use Rattle.gcm.proofs.key.subkey.Statement.{statement}
+use Rattle.gcm.proofs.key.subkey.Tie as tie
 
 encrypt-requires : tie.Need-encrypt-requires
 encrypt-requires c κs = search needs
