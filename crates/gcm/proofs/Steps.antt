@@ -126,11 +126,11 @@ fallen (suc k) j t h e =
 -- 64 bits, in two halves.
 module _ (t : ℕ) (h : t < 2 ^ 64) where
   pub folded : bitXor (bitXor (bitXor t (t / 2)) (t / 4)) (t / 128) * 2 ^ 64
-      + bitXor (bitXor (t % 2 * 9223372036854775808) (t % 4 * 4611686018427387904)) (t % 128 * 144115188075855872) ≡ nexts 64 t
+      + bitXor (bitXor (t % 2 * 0x8000000000000000) (t % 4 * 0x4000000000000000)) (t % 128 * 0x0200000000000000) ≡ nexts 64 t
   folded =
-      let l1 = t % 2 * 9223372036854775808 in
-      let l2 = t % 4 * 4611686018427387904 in
-      let l7 = t % 128 * 144115188075855872 in
+      let l1 = t % 2 * 0x8000000000000000 in
+      let l2 = t % 4 * 0x4000000000000000 in
+      let l7 = t % 128 * 0x0200000000000000 in
       let s1 : l1 < 2 ^ 64 = omega arith in
       let s2 : l2 < 2 ^ 64 = omega arith in
       let s7 : l7 < 2 ^ 64 = omega arith in
