@@ -1,15 +1,17 @@
 -- Laws of numbers as byte strings, and of words.
 -- Assumes nothing.
-use Prim.Native.Nat.{ℕ, zero, suc, _+_, _-_, _*_, _/_, _%_, _^_, _<_, _≤_}
-use mathlib.Core.Path.{_≡_, refl, sym, _∙_, ap, ap₂}
-use mathlib.Core.List.{List, [], _∷_, _++_, append-assoc}
+use Prim.Native.Nat.{ℕ, zero, suc, _+_, _-_, _*_, _/_, _%_, _^_, _<_}
+use mathlib.Core.Path.{_≡_, refl, sym, _∙_, ap}
+use mathlib.Core.List.{List, [], _∷_, _++_, append-assoc, append-nil}
 use native.Mathlib.Omega.{arith}
 use native.Mathlib.Nat.{div-div-eq-div-mul, mod-eq-of-lt, mul-assoc, add-zero, pow-suc, mod-one, zero-lt-suc, mod-lt, mul-add-div-right, mul-add-mod-self-right, one-le-pow}
 use lib.Pow.{pow-pos}
 use lib.Arith.{mod-mul, digits-div, digits-mod}
 use lib.ListN.{length, length-append}
-use Rattle.octets.specs.Words.{word, b0, b1, b2, b3, wordBytes}
+use Rattle.octets.specs.Bytes.{Bytes}
+use Rattle.octets.specs.Words.{word, wordAt, b0, b1, b2, b3, wordBytes}
 use Rattle.octets.proofs.Words.{parts}
+use Rattle.octets.proofs.Bytes.{below-drop}
 use Rattle.octets.specs.BigEndian.{intFrom, int, be}
 
 pub int-append : (x : ℕ) (s t : List ℕ) → intFrom x (s ++ t) ≡ intFrom (intFrom x s) t
@@ -101,6 +103,34 @@ be-state a b c d p q r s =
 pub be-four : (n : ℕ) → n < 2 ^ 32 → be 4 n ≡ wordBytes (n ∷ [])
 unfolding be
 be-four n h = be-word 0 n ∙ ap (λ (x : ℕ). wordBytes (x ∷ [])) (mod-eq-of-lt h)
+
+-- The number of eight bytes, by their two words.
+pub int-eight : (s : List ℕ) → length s ≡ 8 → wordAt s 0 * 2 ^ 32 + wordAt s 4 ≡ int s
+unfolding int intFrom
+int-eight [] l = absurd (omega (arith, l))
+int-eight (a ∷ []) l = absurd (omega (arith, l))
+int-eight (a ∷ b ∷ []) l = absurd (omega (arith, l))
+int-eight (a ∷ b ∷ c ∷ []) l = absurd (omega (arith, l))
+int-eight (a ∷ b ∷ c ∷ d ∷ []) l = absurd (omega (arith, l))
+int-eight (a ∷ b ∷ c ∷ d ∷ e ∷ []) l = absurd (omega (arith, l))
+int-eight (a ∷ b ∷ c ∷ d ∷ e ∷ f ∷ []) l = absurd (omega (arith, l))
+int-eight (a ∷ b ∷ c ∷ d ∷ e ∷ f ∷ g ∷ []) l = absurd (omega (arith, l))
+int-eight (a ∷ b ∷ c ∷ d ∷ e ∷ f ∷ g ∷ h ∷ []) l = omega arith
+int-eight (a ∷ b ∷ c ∷ d ∷ e ∷ f ∷ g ∷ h ∷ i ∷ s) l = absurd (omega (arith, l))
+
+-- The bytes of the number of a byte string are that byte string.
+be-from : (m x : ℕ) (s : List ℕ) → Bytes s → be (m + length s) (intFrom x s) ≡ be m x ++ s
+unfolding be intFrom
+be-from m x [] h = ap (λ (k : ℕ). be k x) (add-zero m) ∙ sym (append-nil (be m x))
+be-from m x (a ∷ s) h =
+    let e : m + length (a ∷ s) ≡ suc m + length s = omega arith in
+    ap (λ (k : ℕ). be k (intFrom (x * 256 + a) s)) e
+    ∙ be-from (suc m) (x * 256 + a) s (below-drop 1 h)
+    ∙ rw (digits-div x (h .at 0), digits-mod x (h .at 0)) (append-assoc (be m x) (a ∷ []) s)
+
+pub be-int : (s : List ℕ) → Bytes s → be (length s) (int s) ≡ s
+unfolding be int
+be-int s h = let e : length s ≡ 0 + length s = omega arith in ap (λ (k : ℕ). be k (intFrom 0 s)) e ∙ be-from 0 0 s h
 
 -- A number's bytes have its lowest digits.
 pub int-be : (n y x : ℕ) → intFrom y (be n x) ≡ y * 256 ^ n + x % 256 ^ n

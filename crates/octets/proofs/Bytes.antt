@@ -1,18 +1,18 @@
 -- Parts and joins of byte strings are byte strings.
 -- Assumes nothing.
-use Prim.Native.Nat.{ℕ, zero, suc, _+_, _-_, _*_, _/_, _%_, _^_, _<_, _≤_}
-use mathlib.Core.Path.{_≡_, refl, sym, _∙_, ap, subst}
+use Prim.Native.Nat.{ℕ, zero, suc, _+_, _-_, _/_, _^_, _<_, _≤_}
+use mathlib.Core.Path.{_≡_, sym, subst}
 use mathlib.Core.List.{List, [], _∷_, _++_}
 use mathlib.Core.Logic.{⊎-elim}
 use native.Mathlib.Omega.{arith}
 use native.Mathlib.Nat.{mod-lt, zero-lt-suc}
-use lib.ListN.{length, take, drop, getD, length-take, List·getD-append, List·getD-eq-default}
+use lib.ListN.{length, take, drop, getD, replicate, length-take, List·getD-append, List·getD-eq-default}
 use lib.Seq.{getD-append-add, getD-take, getD-drop}
-use lib.Bits.{bitXor, xor-lt}
+use lib.Bits.{xor-lt}
 use Rattle.octets.specs.Bytes.{Below, Bytes}
 use Rattle.octets.specs.Xors.{xors}
 use Rattle.octets.specs.BigEndian.{be}
-use Rattle.octets.specs.Words.{b0, b1, b2, b3, wordBytes}
+use Rattle.octets.specs.Words.{wordBytes}
 use Rattle.octets.proofs.Lists.{le-or-lt}
 
 module _ {m : ℕ} where
@@ -25,6 +25,10 @@ module _ {m : ℕ} where
       go : (i : ℕ) → getD (x ∷ s) i 0 < m
       go zero = h
       go (suc i) = k .at i
+
+  pub below-replicate : (n : ℕ) {x : ℕ} → x < m → Below m (replicate n x)
+  below-replicate zero h = below-nil (omega (arith, h))
+  below-replicate (suc n) h = below-cons h (below-replicate n h)
 
   pub below-append : {a b : List ℕ} → Below m a → Below m b → Below m (a ++ b)
   below-append {a} {b} h k = record {

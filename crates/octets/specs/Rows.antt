@@ -8,7 +8,7 @@ use Prim.Native.Nat.{ℕ, zero, suc, _<_}
 use lib.ListN.{length}
 use lib.Dec.{eqb, ltb}
 
--- What a call answers: done, with the lengths written; refused by a row; refused by a row that also returns a number.
+-- What a call answers: done, with the lengths written and what else it returns; refused by a row; refused by a row that also returns a number.
 pub data Outcome : Type 0 where
   done : List ℕ → Outcome
   refused : ℕ → Outcome
@@ -63,11 +63,11 @@ abbrev pub Exactly : (Outcome → Type 0) → Type 0 → Type 0 → List Rule �
 Exactly given success met [] = success ↔ met
 Exactly given success met (r ∷ rules) = (given (r .1) ↔ (met × (r .0 → ⊥))) × Exactly given success (met × r .0) rules
 
--- A call with one buffer goes by rules: it gives a rule's answer and leaves the buffer as it was, or is done with the lengths l and `new` in the buffer.
+-- A call with one buffer goes by rules: it gives a rule's answer and leaves the buffer as it was, or is done, returns l and leaves `new` in the buffer.
 abbrev pub EndsBy : List Rule → List ℕ → List ℕ → List ℕ → End → Type 0
 EndsBy rules l new old e = Exactly (λ o. e ≡ ended o old) (e ≡ ended (done l) new) (Unit {0}) rules
 
--- A call without a buffer goes by rules: it gives a rule's answer, or is done with the lengths l.
+-- A call without a buffer goes by rules: it gives a rule's answer, or is done and returns l.
 abbrev pub AnswersBy : List Rule → List ℕ → Outcome → Type 0
 AnswersBy rules l a = Exactly (λ o. a ≡ o) (a ≡ done l) (Unit {0}) rules
 
@@ -121,7 +121,7 @@ AnswerExactly rows =
     × ((answer rows (done l) ≡ done l) ↔ NoRow rows)
 
 -- A call's end goes by its rows: it has the answer of the row at place k, and the buffer as it was, exactly when that row
--- applies and none before it does; and it is done with the lengths l, and `new` in the buffer, exactly when no row applies.
+-- applies and none before it does; and it is done, returns l and leaves `new` in the buffer, exactly when no row applies.
 abbrev pub EndsExactly : List Row → List ℕ → List ℕ → List ℕ → End → Type 0
 EndsExactly rows l new old e =
     ((k : ℕ) → k < length rows → (e ≡ ended (outcomeAt rows (done l) k) old) ↔ First rows k)

@@ -4,6 +4,7 @@ ghost use mathlib.Core.Path.{_≡_};
 ghost use mathlib.Core.List.{_∷_, []};
 ghost use Prim.Native.Nat.{_≤_, _+_};
 ghost use lib.ListN.{length, getD};
+ghost use Rattle.octets.specs.BigEndian.{int};
 ghost use Rattle.octets.specs.Bytes.{placed};
 ghost use Rattle.octets.specs.Words.{HasBytes, word, wordAt, b0, b1, b2, b3, wordBytes};
 
@@ -45,6 +46,15 @@ pub fn word_at(s: &[u8], at: usize) -> u32
     ensures { λ r. ⌜ HasBytes r (getD (now (s .entry)) at 0) (getD (now (s .entry)) (at + 1) 0) (getD (now (s .entry)) (at + 2) 0) (getD (now (s .entry)) (at + 3) 0) ⌝ }
 {
     join(s[at], s[at + 1], s[at + 2], s[at + 3])
+}
+
+// The number that eight bytes stand for.
+pub fn join_eight(bytes: [u8; 8]) -> u64
+    ensures { λ r. ⌜ r ≡ int bytes ⌝ }
+{
+    let high = join(bytes[0], bytes[1], bytes[2], bytes[3]);
+    let low = join(bytes[4], bytes[5], bytes[6], bytes[7]);
+    (high as u64) * 4294967296 + (low as u64)
 }
 
 fn bytes_of(w: u32) -> [u8; 4]
