@@ -4,8 +4,8 @@
  * Slices
  *   A slice is a pointer and a number of bytes, and any bytes and lengths may be passed: a size that is wrong is refused.
  *   A pointer to no bytes may not be null: pass any other address with the length 0.
- *   `out`, `stored`, `full` of skrapnefja_write_name, and the numbers `length`, `full_length` and `at` are written to. None of
- *   them may overlap another argument. The numbers may not be null.
+ *   `out`, `stored`, `full` of skrapnefja_write_name, and the numbers `length`, `full_length`, `reserved` and `at` are written to.
+ *   None of them may overlap another argument. The numbers may not be null.
  *
  * What is returned and written
  *   Each function returns SKRAPNEFJA_DONE, or the row of the refusal: the lowest that applies among those named at the function.
@@ -41,7 +41,7 @@ enum skrapnefja_row {
     SKRAPNEFJA_RANGE = 6,             /* the range ends behind the cleartext */
     SKRAPNEFJA_ROOM = 7,              /* a buffer has not the room for what goes into it */
     SKRAPNEFJA_REPEATED_NONCE = 8,    /* two chunk nonces of a file to write are equal */
-    SKRAPNEFJA_HEADER = 9,            /* the header's tag is wrong, or its eight reserved bytes are not all 255 */
+    SKRAPNEFJA_HEADER = 9,            /* the header's tag is wrong */
     SKRAPNEFJA_CHUNK = 10,            /* the tag of a chunk that is needed is wrong; `at` is the lowest such chunk's number */
     SKRAPNEFJA_HASH_NAME = 11,        /* the full name has 220 characters or fewer, or the stored name isn't its hash name */
     SKRAPNEFJA_SYNTHETIC_IV = 12      /* the name's synthetic IV doesn't match, as other keys, another directory or damage can cause */
@@ -97,16 +97,20 @@ uint32_t skrapnefja_read_range(const uint8_t *enc, size_t enc_len, const uint8_t
 
 /* ---- A single header, and single chunks: for a caller that does not hold the file whole. */
 
-/* Writes the header of a nonce and a content key: 68 bytes. Rows 1, 7. */
+/* Writes the header of a nonce and a content key, its eight reserved bytes FF: 68 bytes. Rows 1, 7. */
 uint32_t skrapnefja_write_header(const uint8_t *enc, size_t enc_len, const uint8_t *mac, size_t mac_len,
                                  const uint8_t *nonce, size_t nonce_len,
                                  const uint8_t *content_key, size_t content_key_len,
                                  uint8_t *out, size_t out_len, uint64_t *length);
 
-/* Opens a header of 68 bytes, of which the first 12 are its nonce: writes the content key, 32 bytes. Rows 1, 4, 7, 9. */
+/*
+ * Opens a header of 68 bytes, of which the first 12 are its nonce: writes the content key, 32 bytes, and to `reserved` its eight
+ * reserved bytes as a number, the first byte the highest. The format keeps them for later use, and any are accepted: those of
+ * this library are all FF, and an old program may have put a file's size there. Rows 1, 4, 7, 9.
+ */
 uint32_t skrapnefja_open_header(const uint8_t *enc, size_t enc_len, const uint8_t *mac, size_t mac_len,
                                 const uint8_t *header, size_t header_len,
-                                uint8_t *out, size_t out_len, uint64_t *length);
+                                uint8_t *out, size_t out_len, uint64_t *length, uint64_t *reserved);
 
 /* Writes the chunk with a number, counted from 0, of 1 to 32,768 bytes of cleartext: 28 bytes more. Rows 1, 4, 7. */
 uint32_t skrapnefja_write_chunk(const uint8_t *content_key, size_t content_key_len,

@@ -73,6 +73,19 @@ static void open_the_file(void)
     printf("opened it: %" PRIu64 " bytes\n", length);
 }
 
+static void open_the_header(void)
+{
+    uint8_t content_key[SKRAPNEFJA_KEY_SIZE];
+    uint64_t length = 0;
+    uint64_t reserved = 0;
+
+    check(skrapnefja_open_header(enc, sizeof enc, mac, sizeof mac, file, SKRAPNEFJA_HEADER_SIZE, content_key,
+                                 sizeof content_key, &length, &reserved) == SKRAPNEFJA_DONE,
+          "opening the header");
+    check(length == SKRAPNEFJA_KEY_SIZE && content_key[0] == 4 && reserved == UINT64_MAX, "what the header says");
+    printf("opened its header: reserved bytes %016" PRIx64 "\n", reserved);
+}
+
 static void read_ranges(void)
 {
     uint8_t out[24];
@@ -142,6 +155,7 @@ int main(void)
 {
     write_the_file();
     open_the_file();
+    open_the_header();
     read_ranges();
     damage_the_second_chunk();
     write_and_open_a_name();

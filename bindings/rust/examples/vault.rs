@@ -30,6 +30,11 @@ fn main() -> Result<(), Refusal> {
     assert_eq!(opened, cleartext);
     print!("opened:\n{}", String::from_utf8_lossy(&opened));
 
+    let (header, mut key) = (&file[..skrapnefja::HEADER_LEN], [0; 32]);
+    let opened = skrapnefja::open_header(&enc, &mac, header, &mut key)?;
+    assert_eq!(key, content_key);
+    println!("its header has the reserved bytes {:x?}", opened.reserved);
+
     let mut part = [0; 9];
     skrapnefja::read_range(&enc, &mac, &file, 6, 9, &mut part)?;
     println!("bytes 6 to 14: {}", String::from_utf8_lossy(&part));

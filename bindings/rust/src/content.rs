@@ -15,8 +15,8 @@ pub const CHUNK_OVERHEAD: usize = 28;
 /// The most cleartext in one file.
 pub const MAX_CLEARTEXT_LEN: usize = 16_777_216;
 
-/// Writes a file header, 68 bytes, and gives their number. Refused with rows 1
-/// and 7.
+/// Writes a file header, 68 bytes, its reserved bytes all ff, and gives their
+/// number. Refused with rows 1 and 7.
 pub fn write_header(
     enc: &[u8],
     mac: &[u8],
@@ -30,17 +30,30 @@ pub fn write_header(
     done(status, length, 0)
 }
 
-/// Writes the content key of a header, 32 bytes, and gives their number.
-/// Refused with rows 1, 4, 7 and 9.
+/// What [`open_header`] found.
+#[derive(Clone, Copy, Debug, PartialEq, Eq)]
+pub struct OpenedHeader {
+    /// The length of the content key that was written: 32.
+    pub length: usize,
+    /// The reserved bytes in their order. The format keeps them for later use:
+    /// ours are all ff, and an old program may have put a file's size there.
+    pub reserved: [u8; 8],
+}
+
+/// Writes the content key of a header, 32 bytes, and gives its length and the
+/// reserved bytes. Refused with rows 1, 4, 7 and 9.
 pub fn open_header(
     enc: &[u8],
     mac: &[u8],
     header: &[u8],
     out: &mut [u8],
-) -> Result<usize, Refusal> {
-    let mut length = 0;
-    let status = safely!(skrapnefja_open_header: in enc, in mac, in header, out out, set length,);
-    done(status, length, 0)
+) -> Result<OpenedHeader, Refusal> {
+    let (mut length, mut reserved) = (0, 0);
+    let status = safely!(skrapnefja_open_header:
+        in enc, in mac, in header, out out, set length, set reserved,);
+    let length = done(status, length, 0)?;
+    let reserved = reserved.to_be_bytes();
+    Ok(OpenedHeader { length, reserved })
 }
 
 /// Writes a chunk, 28 bytes longer than its cleartext, and gives its length.

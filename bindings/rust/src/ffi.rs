@@ -2,9 +2,9 @@
 //!
 //! A slice is a pointer and a length; the pointer may not be null, also if the
 //! length is 0. Each function gives 0 for done, or else the row of the
-//! refusal. It sets `length` and `full_length` only if it gives 0, and `at`
-//! only if it gives 10. No buffer or result may overlap anything else that is
-//! passed.
+//! refusal. It sets `length`, `full_length` and `reserved` only if it gives 0,
+//! and `at` only if it gives 10. No buffer or result may overlap anything else
+//! that is passed.
 
 extern "C" {
     pub fn skrapnefja_write_header(
@@ -31,6 +31,7 @@ extern "C" {
         out: *mut u8,
         out_len: usize,
         length: *mut u64,
+        reserved: *mut u64,
     ) -> u32;
 
     pub fn skrapnefja_write_chunk(

@@ -40,7 +40,8 @@ mod refusal;
 
 pub use content::{
     cleartext_length, file_length, open_chunk, open_file, open_header, read_range, write_chunk,
-    write_file, write_header, CHUNK_LEN, CHUNK_OVERHEAD, HEADER_LEN, MAX_CLEARTEXT_LEN,
+    write_file, write_header, OpenedHeader, CHUNK_LEN, CHUNK_OVERHEAD, HEADER_LEN,
+    MAX_CLEARTEXT_LEN,
 };
 pub use names::{
     dir_path, open_long_name, open_name, write_name, WrittenName, MAX_FULL_LEN, MAX_NAME_LEN,

@@ -27,7 +27,7 @@ pub enum Refusal {
     Room,
     /// Row 8: two chunks to write have the same nonce.
     RepeatedNonce,
-    /// Row 9: the header's tag is wrong, or its reserved bytes are.
+    /// Row 9: the header's tag is wrong.
     Header,
     /// Row 10: the tag of this chunk is wrong, and it is the lowest such
     /// number of the chunks that the call needs.

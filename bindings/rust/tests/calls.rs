@@ -76,7 +76,11 @@ fn flipped(bytes: &[u8], place: usize) -> Vec<u8> {
 #[test]
 fn headers() {
     let header = header();
-    let key = done(32, |out| open_header(&ENC, &MAC, &header, out));
+    let key = done(32, |out| {
+        let opened = open_header(&ENC, &MAC, &header, out)?;
+        assert_eq!(opened.reserved, [0xff; 8]);
+        Ok(opened.length)
+    });
     assert_eq!(key, CONTENT_KEY);
 
     let write = |mac: &[u8], len| {
@@ -95,6 +99,31 @@ fn headers() {
     assert_eq!(open(&MAC, &header[1..], 32), 4);
     assert_eq!(open(&MAC, &header, 31), 7);
     assert_eq!(open(&MAC, &flipped(&header, 20), 32), 9);
+}
+
+/// A header with reserved bytes that all differ, under keys 0, 1, .. and 32,
+/// 33, ..
+#[rustfmt::skip]
+const RESERVED: [u8; HEADER_LEN] = [
+    0xa0, 0xa1, 0xa2, 0xa3, 0xa4, 0xa5, 0xa6, 0xa7, 0xa8, 0xa9, 0xaa, 0xab,
+    0x67, 0x9a, 0xff, 0xa9, 0xc0, 0x4d, 0x85, 0x37, 0x22, 0x24, 0xc5, 0x90,
+    0x43, 0x3f, 0x86, 0x99, 0x38, 0xe5, 0x13, 0x5b, 0xde, 0xfa, 0x0c, 0x23,
+    0xcc, 0x5f, 0x74, 0xd5, 0x2b, 0xfe, 0x23, 0x56, 0x8a, 0x2f, 0x1d, 0xa4,
+    0xf3, 0x7f, 0x0d, 0x62, 0x6f, 0x1b, 0xad, 0x30, 0xe9, 0x4f, 0x48, 0x69,
+    0x5a, 0xdd, 0x45, 0x79, 0x78, 0x99, 0x94, 0xd4,
+];
+
+#[test]
+fn reserved_bytes() {
+    let (enc, mac): (Vec<_>, Vec<_>) = ((0..32).collect(), (32..64).collect());
+    let mut key = [OLD; 32];
+    let opened = open_header(&enc, &mac, &RESERVED, &mut key).expect("a right tag");
+    assert_eq!(opened.length, 32);
+    assert_eq!(
+        opened.reserved,
+        [0x81, 0x82, 0x83, 0x84, 0x85, 0x86, 0x87, 0x88]
+    );
+    assert!(key.into_iter().eq(0x40..0x60));
 }
 
 #[test]

@@ -1,11 +1,14 @@
 -- What an answer of the code means: each refusal has its row.
 -- Assumes nothing.
-use mathlib.Core.List.{[], _∷_}
+use Prim.Native.Nat.{ℕ}
+use mathlib.Core.List.{List, [], _∷_}
+use lib.ListN.{replicate}
 use Rattle.octets.specs.Rows.{Outcome, done, refused, refusedAt}
 use Rattle.answer.specs.declared.Refusal.{Refusal}
 use Rattle.answer.specs.declared.Refusal.the-variants.{KeyOrNonceSize, DirectoryId, NameSize, Length, Text, Range, Room, RepeatedNonce, Header, Chunk, HashName, SyntheticIv}
 use Rattle.answer.specs.declared.Answer.{Answer}
 use Rattle.answer.specs.declared.Answer.the-variants.{Done, Refused}
+use Rattle.answer.specs.declared.HeaderAnswer.{HeaderAnswer}
 use Rattle.answer.specs.declared.NameAnswer.{NameAnswer}
 use Rattle.answer.specs.declared.NameAnswer.the-variants as name
 
@@ -26,6 +29,21 @@ row SyntheticIv = refused 12
 abbrev pub meaning : Answer → Outcome
 meaning (Done n) = done (n ∷ [])
 meaning (Refused r) = row r
+
+-- On success the length, and behind it the reserved bytes.
+abbrev pub withReserved : Answer → List ℕ → Outcome
+withReserved (Done n) bytes = done (n ∷ bytes)
+withReserved (Refused r) bytes = row r
+
+abbrev pub headerMeaning : HeaderAnswer → Outcome
+headerMeaning r = withReserved (r .answer) (r .reserved)
+
+-- The reserved bytes that stand beside the answer of the header opener: those behind the length, and eight zeros beside a refusal.
+abbrev pub reservedBeside : Outcome → List ℕ
+reservedBeside (done []) = replicate 8 0
+reservedBeside (done (n ∷ bytes)) = bytes
+reservedBeside (refused x) = replicate 8 0
+reservedBeside (refusedAt x i) = replicate 8 0
 
 -- One length: the full name is stored; two: its hash name is.
 abbrev pub nameMeaning : NameAnswer → Outcome

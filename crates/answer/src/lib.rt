@@ -25,6 +25,12 @@ pub enum Answer {
     Refused(Refusal),
 }
 
+/// What the header opener answers, and beside it the eight reserved bytes of the header; eight zeros beside a refusal.
+pub struct HeaderAnswer {
+    pub answer: Answer,
+    pub reserved: [u8; 8],
+}
+
 /// `Plain`: the full name is stored, with its length. `Shortened`: its hash name is stored, with the lengths of the hash name and of the
 /// full name. Or refused.
 pub enum NameAnswer {

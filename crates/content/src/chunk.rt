@@ -1,5 +1,5 @@
-// The calls on a single chunk. They are lent the content key and the header's nonce, and no master key: a chunk does not depend on any,
-// so the contracts hold for every two.
+// The calls on a single chunk. They are lent the content key and the header's nonce, no master key and not the header's reserved bytes: a chunk
+// depends on none of these, so the contracts hold for any.
 use aes::round_table::table;
 use answer::Answer;
 use answer::Refusal;
@@ -16,8 +16,9 @@ ghost use lib.Dec.{leb};
 ghost use lib.ListN.{length};
 ghost use Rattle.octets.specs.Rows.{ended};
 ghost use Rattle.aes_spec.specs.Cipher.{aes};
+ghost use Rattle.frame.specs.Frame.{headWith};
 ghost use Rattle.frame.specs.Single.{writeChunk, openChunk};
-ghost use Rattle.siv_gcm.specs.SivGcm.{codec, headWith, sealed, opens, opened, chunkData};
+ghost use Rattle.siv_gcm.specs.SivGcm.{codec, sealed, opens, opened, chunkData};
 ghost use Rattle.answer.specs.Meaning.{meaning};
 
 // Is n at least `low` and at most `high`?
@@ -59,7 +60,7 @@ pub fn write_chunk(
     cleartext: &[u8],
     out: &mut [u8],
 ) -> Answer
-    ensures { λ r. ⌜ ((enc mac : List ℕ) → ended (meaning r) (now (out .exit)) ≡ writeChunk (codec enc mac) (headWith (now («header_nonce» .entry)) (now (key .entry))) number (now (nonce .entry)) (now (cleartext .entry)) (now (out .entry))) ⌝ }
+    ensures { λ r. ⌜ ((enc mac reserved : List ℕ) → ended (meaning r) (now (out .exit)) ≡ writeChunk (codec enc mac) (headWith (now («header_nonce» .entry)) reserved (now (key .entry))) number (now (nonce .entry)) (now (cleartext .entry)) (now (out .entry))) ⌝ }
 {
     if !head_right(header_nonce, key) {
         return Answer::Refused(Refusal::KeyOrNonceSize);
@@ -104,7 +105,7 @@ pub fn open_chunk(
     chunk: &[u8],
     out: &mut [u8],
 ) -> Answer
-    ensures { λ r. ⌜ ((enc mac : List ℕ) → ended (meaning r) (now (out .exit)) ≡ openChunk (codec enc mac) (headWith (now («header_nonce» .entry)) (now (key .entry))) number (now (chunk .entry)) (now (out .entry))) ⌝ }
+    ensures { λ r. ⌜ ((enc mac reserved : List ℕ) → ended (meaning r) (now (out .exit)) ≡ openChunk (codec enc mac) (headWith (now («header_nonce» .entry)) reserved (now (key .entry))) number (now (chunk .entry)) (now (out .entry))) ⌝ }
 {
     if !head_right(header_nonce, key) {
         return Answer::Refused(Refusal::KeyOrNonceSize);

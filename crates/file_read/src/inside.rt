@@ -16,7 +16,7 @@ ghost use Rattle.octets.specs.Rows.{ended};
 ghost use Rattle.aes_spec.specs.RoundTable.{roundTable};
 ghost use Rattle.frame.specs.Layout.{fileLength, clearLength, rightLength};
 ghost use Rattle.frame.specs.Frame.{readRange};
-ghost use Rattle.siv_gcm.specs.SivGcm.{sivGcm, headWith, masterKeysRight, codec};
+ghost use Rattle.siv_gcm.specs.SivGcm.{sivGcm, masterKeysRight, codec};
 ghost use Rattle.answer.specs.Meaning.{meaning};
 ghost use Rattle.file_read.specs.Under.{readUnder};
 
@@ -32,7 +32,7 @@ fn read_under(
 ) -> Answer
     requires { ⌜ now t ≡ roundTable ⌝ }
     requires { ⌜ (length (now key) ≡ 32) × (length (now file) ≡ fileLength sivGcm n) × (from + count ≤ n) × (count ≤ length (now out)) ⌝ }
-    ensures { λ r. ⌜ ended (meaning r) (now (out .exit)) ≡ readUnder (headWith (take 12 (now (file .entry))) (now (key .entry))) (now (file .entry)) from count (now (out .entry)) ⌝ }
+    ensures { λ r. ⌜ ended (meaning r) (now (out .exit)) ≡ readUnder (take 12 (now (file .entry))) (now (key .entry)) (now (file .entry)) from count (now (out .entry)) ⌝ }
 {
     let mut w = [0u32; 60];
     let mut m = [0u64; 32];
@@ -60,9 +60,9 @@ pub fn read_inside(
     ensures { λ r. ⌜ ((mac : List ℕ) → masterKeysRight (now (enc .entry)) mac ≡ true → ended (meaning r) (now (out .exit)) ≡ readRange (codec (now (enc .entry)) mac) (now (file .entry)) from count (now (out .entry))) ⌝ }
 {
     let t = table();
-    let mut key = [0u8; 32];
-    if !open_header(&t, enc, &file[..68], &mut key) {
+    let mut payload = [0u8; 40];
+    if !open_header(&t, enc, &file[..68], &mut payload) {
         return Answer::Refused(Refusal::Header);
     }
-    read_under(&t, &key, file, n, from, count, out)
+    read_under(&t, &payload[8..40], file, n, from, count, out)
 }

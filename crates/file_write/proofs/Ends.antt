@@ -15,9 +15,9 @@ use Rattle.octets.proofs.Lists.{placed-rest}
 use Rattle.octets.proofs.Rows.{first-answers, none-answers}
 use Rattle.octets.specs.Bytes.{filled}
 use Rattle.frame.specs.Layout.{limit, chunks, repeats, fileLength}
-use Rattle.frame.specs.Frame.{Codec, Choice, headRight, fileOf, writeRows, writeFile}
+use Rattle.frame.specs.Frame.{Codec, Choice, ownHead, headRight, fileOf, writeRows, writeFile}
 use Rattle.siv_gcm.proofs.KeySizes.{master-sizes, head-sizes}
-use Rattle.siv_gcm.specs.SivGcm.{sivGcm, headWith, masterKeysRight}
+use Rattle.siv_gcm.specs.SivGcm.{sivGcm, masterKeysRight}
 
 module _ (C : Codec) (c : Choice) (out : List ℕ) where
   open Codec C using (sizes as z, keysRight)
@@ -64,11 +64,11 @@ module _ (C : Codec) (c : Choice) (out : List ℕ) where
             ∙ ends (done (size ∷ []))
             (none-answers (writeRows C c (length out)) (done (size ∷ [])) (ap not k, (le-ltb limit (length (c .clear)) m, (le-ltb (length out) size r, (e, tt)))))
 
-pub sizes-facts : (enc mac n k ns : List ℕ) (m : ℕ) → (masterKeysRight enc mac && (headRight sivGcm (headWith n k) && eqb (length ns) (12 * chunks m))) ≡ true
+pub sizes-facts : (enc mac n k ns : List ℕ) (m : ℕ) → (masterKeysRight enc mac && (headRight sivGcm (ownHead n k) && eqb (length ns) (12 * chunks m))) ≡ true
     → (length enc ≡ 32) × (length n ≡ 12) × (length k ≡ 32) × (length ns ≡ 12 * chunks m)
 sizes-facts enc mac n k ns m e =
     let p = and-true (masterKeysRight enc mac) _ e in
-    let q = and-true (headRight sivGcm (headWith n k)) _ (p .1) in
+    let q = and-true (headRight sivGcm (ownHead n k)) _ (p .1) in
     let h = head-sizes n k (q .0) in
     (master-sizes enc mac (p .0) .0, h .0, h .1, eqb-true _ _ (q .1))
 

@@ -18,10 +18,9 @@ ghost use lib.ListN.{length};
 ghost use lib.Dec.{eqb};
 ghost use Rattle.octets.specs.Rows.{ended};
 ghost use Rattle.frame.specs.Layout.{chunks, fileLength};
-ghost use Rattle.frame.specs.Frame.{headRight, fileOf, writeFile};
-ghost use Rattle.siv_gcm.specs.SivGcm.{sivGcm, headWith, masterKeysRight, codec};
+ghost use Rattle.frame.specs.Frame.{ownHead, ownChoice, headRight, fileOf, writeFile};
+ghost use Rattle.siv_gcm.specs.SivGcm.{sivGcm, masterKeysRight, codec};
 ghost use Rattle.answer.specs.Meaning.{meaning};
-ghost use Rattle.file_write.specs.Choices.{choice};
 
 // Do the keys and nonces have their sizes, and is there a nonce for each chunk of n bytes of cleartext?
 fn sizes_right(
@@ -32,7 +31,7 @@ fn sizes_right(
     nonces: &[u8],
     n: usize,
 ) -> bool
-    ensures { λ r. ⌜ r ≡ (masterKeysRight (now (enc .entry)) (now (mac .entry)) && (headRight sivGcm (headWith (now («header_nonce» .entry)) (now (key .entry))) && eqb (length (now (nonces .entry))) (12 * chunks n))) ⌝ }
+    ensures { λ r. ⌜ r ≡ (masterKeysRight (now (enc .entry)) (now (mac .entry)) && (headRight sivGcm (ownHead (now («header_nonce» .entry)) (now (key .entry))) && eqb (length (now (nonces .entry))) (12 * chunks n))) ⌝ }
 {
     if !master_keys_right(enc, mac) {
         return false;
@@ -54,7 +53,7 @@ fn seal_file(
 )
     requires { ⌜ (length (now enc) ≡ 32) × (length (now «header_nonce») ≡ 12) × (length (now key) ≡ 32) ⌝ }
     requires { ⌜ (length (now nonces) ≡ 12 * chunks (length (now cleartext))) × (length (now out) ≡ fileLength sivGcm (length (now cleartext))) ⌝ }
-    ensures { λ _. ⌜ ((mac : List ℕ) → now (out .exit) ≡ fileOf (codec (now (enc .entry)) mac) (choice (now («header_nonce» .entry)) (now (key .entry)) (now (nonces .entry)) (now (cleartext .entry)))) ⌝ }
+    ensures { λ _. ⌜ ((mac : List ℕ) → now (out .exit) ≡ fileOf (codec (now (enc .entry)) mac) (ownChoice (now («header_nonce» .entry)) (now (key .entry)) (now (nonces .entry)) (now (cleartext .entry)))) ⌝ }
 {
     let t = aes::round_table::table();
     seal_header(&t, enc, header_nonce, key, &mut out[..68]);
@@ -75,7 +74,7 @@ pub fn write_file(
     cleartext: &[u8],
     out: &mut [u8],
 ) -> Answer
-    ensures { λ r. ⌜ ended (meaning r) (now (out .exit)) ≡ writeFile (codec (now (enc .entry)) (now (mac .entry))) (choice (now («header_nonce» .entry)) (now (key .entry)) (now (nonces .entry)) (now (cleartext .entry))) (now (out .entry)) ⌝ }
+    ensures { λ r. ⌜ ended (meaning r) (now (out .exit)) ≡ writeFile (codec (now (enc .entry)) (now (mac .entry))) (ownChoice (now («header_nonce» .entry)) (now (key .entry)) (now (nonces .entry)) (now (cleartext .entry))) (now (out .entry)) ⌝ }
 {
     let n = cleartext.len();
     if !sizes_right(enc, mac, header_nonce, key, nonces, n) {

@@ -6,26 +6,26 @@ use mathlib.Core.List.{List, [], _∷_}
 use Prim.Native.Nat.{ℕ, _+_, _-_, _≤_}
 use native.Mathlib.Omega.{arith}
 use lib.ListN.{length, take, getD}
-use lib.Seq.{length-take-le}
-use lib.Dec.{ltb, leb, eqb}
+use lib.Seq.{length-take-le, take-at}
+use lib.Dec.{ltb, leb, eqb, lit≤}
 use borrow.Author.Tests.{eqb-true, eq-eqb, leb-true, le-leb, ltb-false, le-ltb, not-false}
 use Rattle.octets.specs.Bytes.{filled}
 use Rattle.octets.specs.Rows.{Outcome, done, refused, refusedAt, NoRow, EndsExactly, End, ended, Succeeded}
-use Rattle.octets.proofs.Bytes.{below-take}
+use Rattle.octets.proofs.Bytes.{below-replicate, below-take}
 use Rattle.octets.proofs.Equality.{and-true, true-and}
 use Rattle.octets.proofs.Rows.{ends-exactly, none-answers, done-none, none-ends}
 use Rattle.frame.specs.Layout.{Sizes, chunkSize, limit, stored, fileLength, clearLength, rightLength}
-use Rattle.frame.specs.Frame.{Head, HeadFits, Codec, keySize, headRight}
+use Rattle.frame.specs.Frame.{Head, Codec, keySize, reservedSize, headWith, ownHead, HeadFits, headRight, fileOf}
 use Rattle.frame.specs.Laws.{ChunkLaws, Laws}
 use Rattle.frame.specs.Single.{ChunkFits, fileLengthOf, clearLengthOf, writeHeaderRows, writeHeader, openHeaderRows, openHeader, writeChunkRows, writeChunk, openChunkRows, openChunk}
-use Rattle.frame.specs.SingleStatements.{LengthsInverse, SingleBytes, HeaderWrittenOpens, HeaderOpensExactly, ChunkWrittenOpens, ChunkOpensExactly}
+use Rattle.frame.specs.SingleStatements.{LengthsInverse, SingleBytes, HeaderWrittenOpens, AnyReserved, WritesFF, HeaderOpensExactly, ChunkWrittenOpens, ChunkOpensExactly}
 use Rattle.frame.proofs.Heads.{fits-right}
 use Rattle.frame.proofs.Lengths.{right-lengths}
 
 -- For code: the end of each call by its rows.
 pub single-ends : (C : Codec)
     → ((h : Head) (out : List ℕ) → EndsExactly (writeHeaderRows C h (length out)) (C .sizes .header ∷ []) (filled (C .headerOf h) (C .sizes .header) out) out (writeHeader C h out))
-    × ((b out : List ℕ) → EndsExactly (openHeaderRows C b (length out)) (keySize ∷ []) (filled (C .headOf b .key) keySize out) out (openHeader C b out))
+    × ((b out : List ℕ) → EndsExactly (openHeaderRows C b (length out)) (keySize ∷ C .headOf b .reserved) (filled (C .headOf b .key) keySize out) out (openHeader C b out))
     × ((h : Head) (i : ℕ) (n p out : List ℕ)
     → EndsExactly (writeChunkRows C h n p (length out)) ((length p + C .sizes .overhead) ∷ []) (filled (C .chunkOf h i n p) (length p + C .sizes .overhead) out) out (writeChunk C h i n p out))
     × ((h : Head) (i : ℕ) (c out : List ℕ)
@@ -33,7 +33,7 @@ pub single-ends : (C : Codec)
 unfolding writeHeaderRows openHeaderRows writeChunkRows openChunkRows writeHeader openHeader writeChunk openChunk
 single-ends C = (
   λ h out. ends-exactly (writeHeaderRows C h (length out)) refl (C .sizes .header ∷ []) _ out,
-  λ b out. ends-exactly (openHeaderRows C b (length out)) refl (keySize ∷ []) _ out,
+  λ b out. ends-exactly (openHeaderRows C b (length out)) refl (keySize ∷ C .headOf b .reserved) _ out,
   λ h i n p out. ends-exactly (writeChunkRows C h n p (length out)) refl ((length p + C .sizes .overhead) ∷ []) _ out,
   λ h i c out. ends-exactly (openChunkRows C h i c (length out)) refl ((length c - C .sizes .overhead) ∷ []) _ out,
 )
@@ -75,7 +75,7 @@ lengths-inverse z n l = (to, from)
 module _ (C : Codec) (𝓛 : Laws C) where
   open Codec C using (sizes as z, keysRight, headerOf, headOf, headerGood)
 
-  header-opens : (h : Head) (out : List ℕ) → HeadFits z h → keySize ≤ length out → openHeader C (headerOf h) out ≡ ended (done (keySize ∷ [])) (filled (h .key) keySize out)
+  header-opens : (h : Head) (out : List ℕ) → HeadFits z h → keySize ≤ length out → openHeader C (headerOf h) out ≡ ended (done (keySize ∷ h .reserved)) (filled (h .key) keySize out)
   unfolding openHeader openHeaderRows
   header-opens h out ok room =
       let b = headerOf h in
@@ -83,18 +83,18 @@ module _ (C : Codec) (𝓛 : Laws C) where
         ap not (𝓛 .keys-right),
         (ap not (eq-eqb (length b) (z .header) (𝓛 .header-size h ok)), (le-ltb (length out) keySize room, (ap not (𝓛 .header-good h ok), tt))),
       ) in
-      none-ends (openHeaderRows C b (length out)) (keySize ∷ []) (filled (headOf b .key) keySize out) out none ∙ rw (𝓛 .header-says h ok)
+      none-ends (openHeaderRows C b (length out)) (keySize ∷ headOf b .reserved) (filled (headOf b .key) keySize out) out none ∙ rw (𝓛 .header-says h ok)
 
   pub header-opens-exactly : HeaderOpensExactly C
   unfolding openHeader openHeaderRows
-  header-opens-exactly b out bytes room = ((was-written, λ c. (keySize ∷ [], ap (λ (e : End). e .outcome) (opens (c .0) (c .1) (c .2)))), opens)
+  header-opens-exactly b out bytes room = ((was-written, λ c. (keySize ∷ c .0 .reserved, ap (λ (e : End). e .outcome) (opens (c .0) (c .1) (c .2)))), opens)
     where
-      opens : (h : Head) → HeadFits z h → headerOf h ≡ b → openHeader C b out ≡ ended (done (keySize ∷ [])) (filled (h .key) keySize out)
+      opens : (h : Head) → HeadFits z h → headerOf h ≡ b → openHeader C b out ≡ ended (done (keySize ∷ h .reserved)) (filled (h .key) keySize out)
       opens h ok e = ap (λ (x : List ℕ). openHeader C x out) (sym e) ∙ header-opens h out ok (room (ap length (sym e) ∙ 𝓛 .header-size h ok))
 
       was-written : Succeeded (openHeader C b out) → (h : Head) × HeadFits z h × (headerOf h ≡ b)
       was-written s =
-          let n = done-none (openHeaderRows C b (length out)) (keySize ∷ []) (s .0) refl (s .1) in
+          let n = done-none (openHeaderRows C b (length out)) (keySize ∷ headOf b .reserved) (s .0) refl (s .1) in
           let size = eqb-true (length b) (z .header) (not-false _ (n .1 .0)) in
           let good = not-false (headerGood b) (n .1 .1 .1 .0) in
           (headOf b, 𝓛 .good-head b bytes size good, sym (𝓛 .good-header b bytes size good))
@@ -107,6 +107,17 @@ module _ (C : Codec) (𝓛 : Laws C) where
             ∙ ap (λ (x : ℕ). ended (done (x ∷ [])) (filled (headerOf h) x out)) (sym (𝓛 .header-size h ok)),
         header-opens h into ok roomy,
       )
+
+  pub any-reserved : AnyReserved C
+  any-reserved n r k into sn sr sk bn br bk room =
+      header-opens (headWith n r k) into (record { nonce-size = sn; key-size = sk; nonce-bytes = bn; key-bytes = bk; reserved-fits = (sr, br) }) room
+
+  pub writes-ff : WritesFF C
+  unfolding fileOf
+  writes-ff n k sn sk bn bk =
+      let ok : HeadFits z (ownHead n k) =
+      record { nonce-size = sn; key-size = sk; nonce-bytes = bn; key-bytes = bk; reserved-fits = (refl, below-replicate reservedSize (lit≤ tt)) } in
+      (λ into room. header-opens (ownHead n k) into ok room, λ ns p. take-at (headerOf (ownHead n k)) _ (z .header) (𝓛 .header-size (ownHead n k) ok))
 
 -- ---- the chunk
 

@@ -4,15 +4,16 @@ use mathlib.Core.Path.{_≡_}
 use mathlib.Core.Bool.{Bool, not, _&&_}
 use mathlib.Core.List.{List, [], _∷_, _++_}
 use Prim.Native.Nat.{ℕ, _+_, _*_, _/_, _≤_}
-use lib.ListN.{length, drop}
+use lib.ListN.{length, drop, replicate}
 use lib.Dec.{ltb, eqb}
 use Rattle.octets.specs.Bytes.{Bytes, filled}
 use Rattle.octets.specs.Rows.{done, refused, refusedAt, Row, answer, End, ending}
 use Rattle.frame.specs.Layout.{Sizes, chunkSize, limit, chunks, covering, repeats, fileLength, clearLength, rightLength, headerAt, lowestBad, allParts, chunksFrom}
 
--- What a header says: its own nonce, and the content key.
+-- What a header says: its own nonce, the reserved bytes, and the content key.
 pub record Head : Type 0 where
   pub nonce : List ℕ
+  pub reserved : List ℕ
   pub key : List ℕ
 
 -- A cipher combo under its master keys.
@@ -38,12 +39,39 @@ pub record Choice : Type 0 where
 abbrev pub keySize : ℕ
 keySize = 32
 
--- A header nonce and a content key of the sizes that row 1 asks for.
+abbrev pub reservedSize : ℕ
+reservedSize = 8
+
+-- The payload of a header, which is enciphered: the bytes that the format reserves for later use, and behind them the content key.
+abbrev pub payloadSize : ℕ
+payloadSize = reservedSize + keySize
+
+abbrev pub payloadOf : Head → List ℕ
+payloadOf h = h .reserved ++ h .key
+
+-- The nonce n, the reserved bytes r and the content key k.
+abbrev pub headWith : List ℕ → List ℕ → List ℕ → Head
+headWith n r k = record { nonce = n; reserved = r; key = k }
+
+-- The writers of this library write eight bytes FF: what their header of the nonce n and the content key k says, and what their file writer
+-- chooses, which is lent those two, the nonces ns of the chunks and the cleartext p.
+abbrev pub ownHead : List ℕ → List ℕ → Head
+ownHead n k = headWith n (replicate reservedSize 0xff) k
+
+abbrev pub ownChoice : List ℕ → List ℕ → List ℕ → List ℕ → Choice
+ownChoice n k ns p = record { head = ownHead n k; nonces = ns; clear = p }
+
+-- The format leaves the reserved bytes open: any eight.
+abbrev pub EightBytes : List ℕ → Type 0
+EightBytes r = (length r ≡ reservedSize) × Bytes r
+
+-- A header nonce and a content key of the sizes that row 1 asks for, and any eight reserved bytes.
 pub record HeadFits (z : Sizes) (h : Head) : Type 0 where
   pub nonce-size : length (h .nonce) ≡ z .nonce
   pub key-size : length (h .key) ≡ keySize
   pub nonce-bytes : Bytes (h .nonce)
   pub key-bytes : Bytes (h .key)
+  pub reserved-fits : EightBytes (h .reserved)
 
 -- A choice within the limits: a nonce for each chunk, and no more cleartext than 512 chunks hold.
 pub record Fits (z : Sizes) (c : Choice) : Type 0 where

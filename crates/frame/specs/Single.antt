@@ -31,7 +31,7 @@ module _ (C : Codec) where
   open Codec C using (sizes as z, keysRight, headerOf, chunkOf, headOf, headerGood, good, plain)
   open Sizes z using (header, nonce, overhead)
 
-  -- writing the header of a nonce and a content key: the size of a key or the nonce (1), the buffer too short (7)
+  -- writing a header, whose reserved bytes no caller lends: the size of a key or the nonce (1), the buffer too short (7)
   unfoldable pub writeHeaderRows : Head → ℕ → List Row
   writeHeaderRows h room =
       (not (keysRight && headRight z h), refused 1)
@@ -41,8 +41,8 @@ module _ (C : Codec) where
   unfoldable pub writeHeader : Head → List ℕ → End
   writeHeader h out = ending (answer (writeHeaderRows h (length out)) (done (header ∷ []))) (filled (headerOf h) header out) out
 
-  -- opening the header b, of which the content key goes out: a master key's size (1), the header's (4), the buffer too short (7), the header not
-  -- good (9)
+  -- opening the header b: its content key goes out, and a success returns that key's length and then the reserved bytes; a master key's size (1),
+  -- the header's (4), the buffer too short (7), the header not good (9)
   unfoldable pub openHeaderRows : List ℕ → ℕ → List Row
   openHeaderRows b room =
       (not keysRight, refused 1)
@@ -52,7 +52,7 @@ module _ (C : Codec) where
       ∷ []
 
   unfoldable pub openHeader : List ℕ → List ℕ → End
-  openHeader b out = ending (answer (openHeaderRows b (length out)) (done (keySize ∷ []))) (filled (headOf b .key) keySize out) out
+  openHeader b out = ending (answer (openHeaderRows b (length out)) (done (keySize ∷ headOf b .reserved))) (filled (headOf b .key) keySize out) out
 
   -- writing chunk i of the nonce n and the cleartext p: the calls on a chunk are lent the header's nonce and the content key, and no master key,
   -- so row 1 goes by those two and the chunk's nonce; no cleartext or more than a chunk holds (4), the buffer too short (7)

@@ -1,12 +1,14 @@
 -- Headers and chunks as they are to come out of the definitions: those of the stock program's published tests, all of zeros, and values
--- of our own whose keys, nonces and numbers all differ, so that none can stand for another, worked out with OpenSSL.
+-- of our own whose keys, nonces, reserved bytes and numbers all differ, so that none can stand for another, worked out with OpenSSL.
 -- Assumes nothing.
 use Prim.Native.Nat.{ℕ}
-use mathlib.Core.List.{List}
+use mathlib.Core.List.{List, _∷_}
 use mathlib.Core.Path.{_≡_}
 use lib.ListN.{replicate}
 use Rattle.octets.specs.BigEndian.{be}
-use Rattle.frame.specs.Frame.{Head}
+use Rattle.octets.specs.Rows.{done, ended}
+use Rattle.frame.specs.Frame.{Head, headWith, ownHead}
+use Rattle.frame.specs.Single.{openHeader}
 use Rattle.siv_gcm.specs.SivGcm.{codec}
 
 -- "hello world"
@@ -17,7 +19,7 @@ abbrev pub zeros : List ℕ
 zeros = replicate 32 0
 
 abbrev pub zeroHead : Head
-zeroHead = record { nonce = replicate 12 0; key = zeros }
+zeroHead = ownHead (replicate 12 0) zeros
 
 abbrev pub StockHeader : Type 0
 StockHeader =
@@ -36,12 +38,25 @@ abbrev pub mac : List ℕ
 mac = be 32 0x202122232425262728292a2b2c2d2e2f303132333435363738393a3b3c3d3e3f
 
 abbrev pub distinctHead : Head
-distinctHead = record { nonce = be 12 0xa0a1a2a3a4a5a6a7a8a9aaab; key = be 32 0x404142434445464748494a4b4c4d4e4f505152535455565758595a5b5c5d5e5f }
+distinctHead = ownHead (be 12 0xa0a1a2a3a4a5a6a7a8a9aaab) (be 32 0x404142434445464748494a4b4c4d4e4f505152535455565758595a5b5c5d5e5f)
 
 abbrev pub DistinctHeader : Type 0
 DistinctHeader =
     codec enc mac .headerOf distinctHead
     ≡ be 68 0xa0a1a2a3a4a5a6a7a8a9aaab19e783d2ba34fd402224c590433f869938e5135bdefa0c23cc5f74d52bfe23568a2f1da4f37f0d62c30445876cf09467f774a0756c425257
+
+-- The same with reserved bytes that this library does not write, 81 to 88; and its opening, which returns them.
+abbrev pub reserved : List ℕ
+reserved = be 8 0x8182838485868788
+
+abbrev pub reservedHeader : List ℕ
+reservedHeader = be 68 0xa0a1a2a3a4a5a6a7a8a9aaab679affa9c04d85372224c590433f869938e5135bdefa0c23cc5f74d52bfe23568a2f1da4f37f0d626f1bad30e94f48695add4579789994d4
+
+abbrev pub ReservedHeader : Type 0
+ReservedHeader = codec enc mac .headerOf (headWith (distinctHead .nonce) reserved (distinctHead .key)) ≡ reservedHeader
+
+abbrev pub ReservedHeaderOpens : Type 0
+ReservedHeaderOpens = openHeader (codec enc mac) reservedHeader zeros ≡ ended (done (32 ∷ reserved)) (distinctHead .key)
 
 -- chunk 0x0102030405060708
 abbrev pub DistinctChunk : Type 0

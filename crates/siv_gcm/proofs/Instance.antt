@@ -1,22 +1,19 @@
 -- SIV_GCM keeps the laws of a cipher combo: its chunks under any keys, and its headers under every two master keys of 32 bytes.
 -- Assumes nothing.
-use Prim.Native.Nat.{ℕ, zero, suc, _+_, _-_}
+use Prim.Native.Nat.{ℕ, _-_}
 use mathlib.Core.Path.{_≡_, sym, ap, _∙_}
 use mathlib.Core.Bool.{true}
-use mathlib.Core.List.{List, [], _++_}
-use native.Mathlib.Nat.{zero-lt-suc}
+use mathlib.Core.List.{List, []}
 use native.Mathlib.Omega.{arith}
-use lib.ListN.{length, take, drop, length-append, length-drop, replicate, take-append-drop}
-use lib.Seq.{length-take-le}
-use lib.Dec.{eqb, lit≤}
-use borrow.Author.Tests.{eq-eqb}
-use Rattle.octets.specs.Bytes.{Bytes, same}
+use lib.ListN.{length, take, drop, length-append, length-drop, take-append-drop}
+use lib.Seq.{length-take-le, take-at, drop-at}
+use lib.Dec.{lit≤}
+use Rattle.octets.specs.Bytes.{Bytes}
 use Rattle.aes_spec.specs.Cipher.{aes}
-use Rattle.octets.proofs.Bytes.{below-append, below-cons, below-nil, below-take, below-drop}
-use Rattle.octets.proofs.Equality.{and-true, true-and, same-self, same-eq}
-use Rattle.frame.specs.Frame.{Head, HeadFits, keySize}
+use Rattle.octets.proofs.Bytes.{below-append, below-take, below-drop}
+use Rattle.frame.specs.Frame.{Head, keySize, reservedSize, payloadOf, HeadFits}
 use Rattle.frame.specs.Laws.{ChunkLaws, Laws}
-use Rattle.siv_gcm.specs.SivGcm.{sivGcm, sealed, opens, opened, reserved, chunkData, headerOf, headOf, headerGood, masterKeysRight, codec}
+use Rattle.siv_gcm.specs.SivGcm.{sivGcm, sealed, opened, chunkData, headerOf, headOf, headerGood, codec}
 use Rattle.siv_gcm.proofs.KeySizes.{keys-exactly}
 use Rattle.siv_gcm.proofs.Sealed.{was-sealed, length-sealed, nonce-sealed, opens-sealed, opened-sealed, bytes-sealed, length-opened, bytes-opened}
 
@@ -34,58 +31,50 @@ chunk-laws enc mac =
       plain-bytes = λ h i c ok bytes. bytes-opened (h .key) c (ok .key-bytes) bytes;
     }
 
-bytes-reserved : Bytes reserved
-bytes-reserved = go 8
-  where
-    go : (n : ℕ) → Bytes (replicate n 255)
-    go zero = below-nil (zero-lt-suc 255)
-    go (suc n) = below-cons (lit≤ tt) (go n)
-
 module _ (enc mac : List ℕ) (size : length enc ≡ keySize) (size′ : length mac ≡ keySize) (bytes : Bytes enc) where
   says : (h : Head) → HeadFits sivGcm h → headOf enc (headerOf enc h) ≡ h
   unfolding headOf headerOf
   says h ok =
-      let n = nonce-sealed enc [] (h .nonce) (reserved ++ h .key) (ok .nonce-size) in
-      let k : drop 8 (opened (aes 8 enc) (sealed (aes 8 enc) [] (h .nonce) (reserved ++ h .key))) ≡ h .key =
-      ap (drop 8) (opened-sealed enc [] (h .nonce) (reserved ++ h .key) (ok .nonce-size)) in
-      λ i. record { nonce = n i; key = k i }
+      let p = payloadOf h in
+      let n = nonce-sealed enc [] (h .nonce) p (ok .nonce-size) in
+      let o : opened (aes 8 enc) (sealed (aes 8 enc) [] (h .nonce) p) ≡ p = opened-sealed enc [] (h .nonce) p (ok .nonce-size) in
+      let r = ap (take reservedSize) o ∙ take-at (h .reserved) (h .key) reservedSize (ok .reserved-fits .0) in
+      let k = ap (drop reservedSize) o ∙ drop-at (h .reserved) (h .key) reservedSize (ok .reserved-fits .0) in
+      λ i. record { nonce = n i; reserved = r i; key = k i }
 
   written-good : (h : Head) → HeadFits sivGcm h → headerGood enc (headerOf enc h) ≡ true
   unfolding headerGood headerOf
-  written-good h ok =
-      let p = reserved ++ h .key in
-      true-and (opens (aes 8 enc) [] (sealed (aes 8 enc) [] (h .nonce) p)) (same (take 8 (opened (aes 8 enc) (sealed (aes 8 enc) [] (h .nonce) p))) reserved) (opens-sealed enc [] (h .nonce) p (ok .nonce-size))
-      (ap (λ (x : List ℕ). same (take 8 x) reserved) (opened-sealed enc [] (h .nonce) p (ok .nonce-size)) ∙ same-self reserved)
+  written-good h ok = opens-sealed enc [] (h .nonce) (payloadOf h) (ok .nonce-size)
 
   good-written : (b : List ℕ) → headerGood enc b ≡ true → b ≡ headerOf enc (headOf enc b)
   unfolding headerGood headOf headerOf
-  good-written b e =
-      let t = and-true (opens (aes 8 enc) [] b) (same (take 8 (opened (aes 8 enc) b)) reserved) e in
-      let r : take 8 (opened (aes 8 enc) b) ≡ reserved = same-eq (take 8 (opened (aes 8 enc) b)) reserved (t .1) in
-      was-sealed enc [] b (t .0)
-      ∙ ap (sealed (aes 8 enc) [] (take 12 b)) (sym (take-append-drop 8 (opened (aes 8 enc) b)) ∙ ap (λ (x : List ℕ). x ++ drop 8 (opened (aes 8 enc) b)) r)
+  good-written b e = was-sealed enc [] b e ∙ ap (sealed (aes 8 enc) [] (take 12 b)) (sym (take-append-drop reservedSize (opened (aes 8 enc) b)))
 
   good-fits : (b : List ℕ) → Bytes b → length b ≡ 68 → HeadFits sivGcm (headOf enc b)
   unfolding headOf
   good-fits b bb l =
+      let p = opened (aes 8 enc) b in
       let o = length-opened enc b in
+      let bp = bytes-opened enc b bytes bb in
       record {
         nonce-size = length-take-le 12 b (omega arith);
-        key-size = length-drop 8 (opened (aes 8 enc) b) ∙ omega arith;
+        key-size = length-drop reservedSize p ∙ omega arith;
         nonce-bytes = below-take 12 bb;
-        key-bytes = below-drop 8 (bytes-opened enc b bytes bb);
+        key-bytes = below-drop reservedSize bp;
+        reserved-fits = (length-take-le reservedSize p (omega arith), below-take reservedSize bp);
       }
 
   header-length : (h : Head) → HeadFits sivGcm h → length (headerOf enc h) ≡ 68
   unfolding headerOf
   header-length h ok =
       let k = ok .key-size in
-      let l = length-append reserved (h .key) in
-      length-sealed enc [] (h .nonce) (reserved ++ h .key) (ok .nonce-size) ∙ omega arith
+      let r = ok .reserved-fits .0 in
+      let l = length-append (h .reserved) (h .key) in
+      length-sealed enc [] (h .nonce) (payloadOf h) (ok .nonce-size) ∙ omega arith
 
   header-octets : (h : Head) → HeadFits sivGcm h → Bytes (headerOf enc h)
   unfolding headerOf
-  header-octets h ok = bytes-sealed enc [] (h .nonce) (reserved ++ h .key) bytes (ok .nonce-bytes) (below-append bytes-reserved (ok .key-bytes))
+  header-octets h ok = bytes-sealed enc [] (h .nonce) (payloadOf h) bytes (ok .nonce-bytes) (below-append (ok .reserved-fits .1) (ok .key-bytes))
 
   pub laws : Laws (codec enc mac)
   laws =

@@ -5,14 +5,13 @@ use Prim.Native.Nat.{ℕ}
 use mathlib.Core.Path.{_≡_}
 use mathlib.Core.Bool.{Bool, true, _&&_}
 use mathlib.Core.List.{List, [], _++_}
-use lib.ListN.{length, take, drop, replicate}
+use lib.ListN.{length, take, drop}
 use lib.Dec.{eqb}
-use Rattle.octets.specs.Bytes.{same}
 use Rattle.octets.specs.BigEndian.{be}
 use Rattle.aes_spec.specs.Cipher.{aes}
 use Rattle.gcm.specs.Gcm as gcm
 use Rattle.frame.specs.Layout.{Sizes}
-use Rattle.frame.specs.Frame.{Head, Codec, keySize}
+use Rattle.frame.specs.Frame.{Head, Codec, keySize, reservedSize, payloadOf}
 
 -- A header has 68 bytes, a nonce 12, and a chunk adds a nonce and a tag of 16 bytes to its cleartext.
 abbrev pub sivGcm : Sizes
@@ -33,28 +32,23 @@ opened e b = gcm.plain e (take 12 b) (drop 12 b)
 abbrev pub Tagged : (List ℕ → List ℕ) → List ℕ → Type 0
 Tagged e b = (a : List ℕ) × (opens e a b ≡ true)
 
--- The eight bytes that are sealed before the content key in a header.
-abbrev pub reserved : List ℕ
-reserved = replicate 8 255
-
 -- The associated data of chunk i in a file whose header has the nonce n: the number, below 2^64, as 8 bytes, the highest first, and n.
 unfoldable pub chunkData : List ℕ → ℕ → List ℕ
 chunkData n i = be 8 i ++ n
 
--- What the header of a nonce and a content key says.
-abbrev pub headWith : List ℕ → List ℕ → Head
-headWith n k = record { nonce = n; key = k }
-
--- Headers are under AES-256 with the encryption master key, and have no associated data.
+-- Headers are under AES-256 with the encryption master key, and have no associated data. A header is good when its tag is right, whatever its
+-- reserved bytes.
 module _ (enc : List ℕ) where
   unfoldable pub headerOf : Head → List ℕ
-  headerOf h = sealed (aes 8 enc) [] (h .nonce) (reserved ++ h .key)
+  headerOf h = sealed (aes 8 enc) [] (h .nonce) (payloadOf h)
 
   unfoldable pub headOf : List ℕ → Head
-  headOf b = headWith (take 12 b) (drop 8 (opened (aes 8 enc) b))
+  headOf b =
+      let payload = opened (aes 8 enc) b in
+      record { nonce = take 12 b; reserved = take reservedSize payload; key = drop reservedSize payload }
 
   unfoldable pub headerGood : List ℕ → Bool
-  headerGood b = opens (aes 8 enc) [] b && same (take 8 (opened (aes 8 enc) b)) reserved
+  headerGood b = opens (aes 8 enc) [] b
 
 -- Under the encryption and the MAC master key. Files go by the first alone, yet both must have their size. Chunks are under AES-256 with
 -- the content key.

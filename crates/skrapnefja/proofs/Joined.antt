@@ -5,12 +5,16 @@ use mathlib.Core.Path.{_≡_, ap}
 use mathlib.Core.List.{List}
 use Rattle.octets.specs.Rows.{Outcome, number, End, ended}
 use Rattle.name_spec.specs.Calls.{NameEnd, nameEnded}
-use Rattle.skrapnefja.specs.Results.{writtenAfter, fullLengthAfter, atAfter, result, resultOf, chunkResult, chunkResultOf, nameResult, nameResultOf}
+use Rattle.skrapnefja.specs.Results.{writtenAfter, fullLengthAfter, reservedAfter, atAfter, result, resultOf, headerResult, headerResultOf, chunkResult, chunkResultOf, nameResult, nameResultOf}
 
 module _ {o : Outcome} {r : ℕ} {b : List ℕ} {e : End} (l : ℕ) {l′ : ℕ} (call : ended o b ≡ e) where
   pub joined : (r ≡ number o) × (l′ ≡ writtenAfter o l) → result r b l′ ≡ resultOf e l
   unfolding resultOf
   joined h = rw (h .0, h .1) (ap (λ (x : End). resultOf x l) call)
+
+  pub joined-header : (v : ℕ) {v′ : ℕ} → (r ≡ number o) × (l′ ≡ writtenAfter o l) × (v′ ≡ reservedAfter o v) → headerResult r b l′ v′ ≡ headerResultOf e l v
+  unfolding headerResultOf
+  joined-header v h = rw (h .0, h .1, h .2) (ap (λ (x : End). headerResultOf x l v) call)
 
   pub joined-at : (a : ℕ) {a′ : ℕ} → (r ≡ number o) × (l′ ≡ writtenAfter o l) × (a′ ≡ atAfter o a) → chunkResult r b l′ a′ ≡ chunkResultOf e l a
   unfolding chunkResultOf

@@ -1,30 +1,33 @@
--- What a refusal leaves: both lengths, and `at` unless it names a chunk.
+-- What a refusal leaves: both lengths, the reserved bytes, and `at` unless it names a chunk. What an opened header leaves beside these bytes.
 -- Assumes nothing.
 use Prim.Native.Nat.{ℕ}
 use mathlib.Core.Path.{_≡_, refl}
-use mathlib.Core.List.{[], _∷_}
+use mathlib.Core.List.{List, [], _∷_}
 use denote.Enum.Declared.{tagOf}
 use types.Run.{OneOf, miss}
-use Rattle.answer.specs.Meaning.{row}
+use Rattle.octets.specs.Rows.{number}
+use Rattle.answer.specs.Meaning.{row, meaning, withReserved}
 use Rattle.answer.proofs.Refusal.{the-type}
 use Rattle.answer.specs.declared.Refusal.{Refusal}
 use Rattle.answer.specs.declared.Refusal.the-variants.{KeyOrNonceSize, DirectoryId, NameSize, Length, Text, Range, Room, RepeatedNonce, Header, Chunk, HashName, SyntheticIv}
-use Rattle.skrapnefja.specs.Results.{writtenAfter, fullLengthAfter, atAfter}
+use Rattle.answer.specs.declared.Answer.{Answer}
+use Rattle.answer.specs.declared.Answer.the-variants.{Done, Refused}
+use Rattle.skrapnefja.specs.Results.{writtenAfter, fullLengthAfter, reservedAfter, atAfter}
 
--- any refusal leaves the lengths
-pub keeps-lengths : (x : Refusal) (n : ℕ) → (writtenAfter (row x) n ≡ n) × (fullLengthAfter (row x) n ≡ n)
-keeps-lengths KeyOrNonceSize n = (refl, refl)
-keeps-lengths DirectoryId n = (refl, refl)
-keeps-lengths NameSize n = (refl, refl)
-keeps-lengths Length n = (refl, refl)
-keeps-lengths Text n = (refl, refl)
-keeps-lengths Range n = (refl, refl)
-keeps-lengths Room n = (refl, refl)
-keeps-lengths RepeatedNonce n = (refl, refl)
-keeps-lengths Header n = (refl, refl)
-keeps-lengths (Chunk i) n = (refl, refl)
-keeps-lengths HashName n = (refl, refl)
-keeps-lengths SyntheticIv n = (refl, refl)
+-- any refusal leaves the lengths and the reserved bytes
+pub keeps-lengths : (x : Refusal) (n : ℕ) → (writtenAfter (row x) n ≡ n) × (fullLengthAfter (row x) n ≡ n) × (reservedAfter (row x) n ≡ n)
+keeps-lengths KeyOrNonceSize n = (refl, refl, refl)
+keeps-lengths DirectoryId n = (refl, refl, refl)
+keeps-lengths NameSize n = (refl, refl, refl)
+keeps-lengths Length n = (refl, refl, refl)
+keeps-lengths Text n = (refl, refl, refl)
+keeps-lengths Range n = (refl, refl, refl)
+keeps-lengths Room n = (refl, refl, refl)
+keeps-lengths RepeatedNonce n = (refl, refl, refl)
+keeps-lengths Header n = (refl, refl, refl)
+keeps-lengths (Chunk i) n = (refl, refl, refl)
+keeps-lengths HashName n = (refl, refl, refl)
+keeps-lengths SyntheticIv n = (refl, refl, refl)
 
 -- a refusal that is not `Chunk`, the one with the tag 9, leaves `at`
 pub keeps-at : (x : Refusal) (a : ℕ) → OneOf (0 ∷ 1 ∷ 2 ∷ 3 ∷ 4 ∷ 5 ∷ 6 ∷ 7 ∷ 8 ∷ 10 ∷ 11 ∷ []) (tagOf the-type x) → atAfter (row x) a ≡ a
@@ -40,3 +43,8 @@ keeps-at Header a k = refl
 keeps-at (Chunk i) a k = absurd (miss (0 ∷ 1 ∷ 2 ∷ 3 ∷ 4 ∷ 5 ∷ 6 ∷ 7 ∷ 8 ∷ 10 ∷ 11 ∷ []) 9 tt k)
 keeps-at HashName a k = refl
 keeps-at SyntheticIv a k = refl
+
+-- the reserved bytes behind the length change neither the row nor the length
+pub beside-reserved : (a : Answer) (b : List ℕ) (l : ℕ) → (number (withReserved a b) ≡ number (meaning a)) × (writtenAfter (withReserved a b) l ≡ writtenAfter (meaning a) l)
+beside-reserved (Done n) b l = (refl, refl)
+beside-reserved (Refused x) b l = (refl, refl)

@@ -3,6 +3,7 @@
 -- Assumes nothing.
 use Prim.Native.Nat.{ℕ}
 use mathlib.Core.List.{List, [], _∷_}
+use Rattle.octets.specs.BigEndian.{int}
 use Rattle.octets.specs.Rows.{Outcome, done, refused, refusedAt, number, End}
 use Rattle.name_spec.specs.Calls.{NameEnd}
 
@@ -23,6 +24,13 @@ fullLengthAfter (done (n ∷ full ∷ lengths)) before = full
 fullLengthAfter (refused row) before = before
 fullLengthAfter (refusedAt row i) before = before
 
+-- `reserved`: the reserved bytes of a header, which stand behind the length, as a number, the first byte the highest; a refusal leaves it.
+abbrev pub reservedAfter : Outcome → ℕ → ℕ
+reservedAfter (done []) before = before
+reservedAfter (done (n ∷ bytes)) before = int bytes
+reservedAfter (refused row) before = before
+reservedAfter (refusedAt row i) before = before
+
 -- `at`: the number that a row returns, as row 10 does that of a chunk; any other outcome leaves it.
 abbrev pub atAfter : Outcome → ℕ → ℕ
 atAfter (done lengths) before = before
@@ -41,6 +49,20 @@ result r b l = record { returned = r; buffer = b; written = l }
 
 unfoldable pub resultOf : End → ℕ → Result
 resultOf e l = result (number (e .outcome)) (e .buffer) (writtenAfter (e .outcome) l)
+
+-- ---- the header opener
+
+pub record HeaderResult : Type 0 where
+  pub returned : ℕ
+  pub buffer : List ℕ
+  pub written : ℕ
+  pub reserved : ℕ
+
+abbrev pub headerResult : ℕ → List ℕ → ℕ → ℕ → HeaderResult
+headerResult r b l v = record { returned = r; buffer = b; written = l; reserved = v }
+
+unfoldable pub headerResultOf : End → ℕ → ℕ → HeaderResult
+headerResultOf e l v = headerResult (number (e .outcome)) (e .buffer) (writtenAfter (e .outcome) l) (reservedAfter (e .outcome) v)
 
 -- ---- a call that reads chunks
 

@@ -6,8 +6,9 @@ use content::chunk::write_chunk;
 ghost use mathlib.Core.Path.{_≡_};
 ghost use mathlib.Core.List.{List};
 ghost use Prim.Native.Nat.{ℕ};
+ghost use Rattle.frame.specs.Frame.{headWith};
 ghost use Rattle.frame.specs.Single.{writeChunk, openChunk};
-ghost use Rattle.siv_gcm.specs.SivGcm.{codec, headWith};
+ghost use Rattle.siv_gcm.specs.SivGcm.{codec};
 ghost use Rattle.skrapnefja.specs.Results.{result, resultOf, chunkResult, chunkResultOf};
 
 // Writes the chunk of a number, a nonce and a cleartext of 1 to 32,768 bytes: 28 bytes more.
@@ -21,7 +22,7 @@ pub extern "C" fn skrapnefja_write_chunk(
     out: &mut [u8],
     written: &mut u64,
 ) -> u32
-    ensures { λ r. ⌜ ((enc mac : List ℕ) → result r (now (out .exit)) (now (written .exit)) ≡ resultOf (writeChunk (codec enc mac) (headWith (now («header_nonce» .entry)) (now («content_key» .entry))) number (now (nonce .entry)) (now (cleartext .entry)) (now (out .entry))) (now (written .entry))) ⌝ }
+    ensures { λ r. ⌜ ((enc mac reserved : List ℕ) → result r (now (out .exit)) (now (written .exit)) ≡ resultOf (writeChunk (codec enc mac) (headWith (now («header_nonce» .entry)) reserved (now («content_key» .entry))) number (now (nonce .entry)) (now (cleartext .entry)) (now (out .entry))) (now (written .entry))) ⌝ }
 {
     end(
         write_chunk(content_key, header_nonce, number, nonce, cleartext, out),
@@ -40,7 +41,7 @@ pub extern "C" fn skrapnefja_open_chunk(
     written: &mut u64,
     at: &mut u64,
 ) -> u32
-    ensures { λ r. ⌜ ((enc mac : List ℕ) → chunkResult r (now (out .exit)) (now (written .exit)) (now (at .exit)) ≡ chunkResultOf (openChunk (codec enc mac) (headWith (now («header_nonce» .entry)) (now («content_key» .entry))) number (now (chunk .entry)) (now (out .entry))) (now (written .entry)) (now (at .entry))) ⌝ }
+    ensures { λ r. ⌜ ((enc mac reserved : List ℕ) → chunkResult r (now (out .exit)) (now (written .exit)) (now (at .exit)) ≡ chunkResultOf (openChunk (codec enc mac) (headWith (now («header_nonce» .entry)) reserved (now («content_key» .entry))) number (now (chunk .entry)) (now (out .entry))) (now (written .entry)) (now (at .entry))) ⌝ }
 {
     end_at(
         open_chunk(content_key, header_nonce, number, chunk, out),

@@ -1,12 +1,14 @@
 // How a call ends: what it answers is written to the numbers it was lent, and the row is returned.
 use answer::Answer;
+use answer::HeaderAnswer;
 use answer::NameAnswer;
 use answer::Refusal;
 use answer::row_number;
+use octets::word::join_eight;
 ghost use mathlib.Core.Path.{_≡_};
 ghost use Rattle.octets.specs.Rows.{number};
-ghost use Rattle.answer.specs.Meaning.{meaning, nameMeaning};
-ghost use Rattle.skrapnefja.specs.Results.{writtenAfter, fullLengthAfter, atAfter};
+ghost use Rattle.answer.specs.Meaning.{meaning, headerMeaning, nameMeaning};
+ghost use Rattle.skrapnefja.specs.Results.{writtenAfter, reservedAfter, fullLengthAfter, atAfter};
 
 // Ends a call that answers a length.
 pub fn end(answer: Answer, written: &mut u64) -> u32
@@ -37,6 +39,26 @@ pub fn end_at(answer: Answer, written: &mut u64, at: &mut u64) -> u32
     ensures { λ r. ⌜ (r ≡ number (meaning answer)) × (now (written .exit) ≡ writtenAfter (meaning answer) (now (written .entry))) × (now (at .exit) ≡ atAfter (meaning answer) (now (at .entry))) ⌝ }
 {
     name_chunk(answer, at);
+    end(answer, written)
+}
+
+// Writes the reserved bytes of an opened header as a number, the first byte the highest.
+fn tell_reserved(opened: HeaderAnswer, reserved: &mut u64)
+    ensures { λ _. ⌜ now (reserved .exit) ≡ reservedAfter (headerMeaning opened) (now (reserved .entry)) ⌝ }
+{
+    let answer = opened.answer;
+    if let Answer::Done(_) = answer {
+        let bytes = opened.reserved;
+        *reserved = join_eight(bytes);
+    }
+}
+
+// Ends the opening of a header.
+pub fn end_header(opened: HeaderAnswer, written: &mut u64, reserved: &mut u64) -> u32
+    ensures { λ r. ⌜ (r ≡ number (headerMeaning opened)) × (now (written .exit) ≡ writtenAfter (headerMeaning opened) (now (written .entry))) × (now (reserved .exit) ≡ reservedAfter (headerMeaning opened) (now (reserved .entry))) ⌝ }
+{
+    tell_reserved(opened, reserved);
+    let answer = opened.answer;
     end(answer, written)
 }
 

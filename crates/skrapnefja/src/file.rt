@@ -5,9 +5,8 @@ use file_read::open_file;
 use file_read::read_range;
 use file_write::write_file;
 ghost use mathlib.Core.Path.{_≡_};
-ghost use Rattle.frame.specs.Frame.{writeFile, openFile, readRange};
+ghost use Rattle.frame.specs.Frame.{ownChoice, readRange, openFile, writeFile};
 ghost use Rattle.siv_gcm.specs.SivGcm.{codec};
-ghost use Rattle.file_write.specs.Choices.{choice};
 ghost use Rattle.skrapnefja.specs.Results.{result, resultOf, chunkResult, chunkResultOf};
 
 // Writes the file of a cleartext; `chunk_nonces` has 12 bytes for each chunk, in order.
@@ -22,7 +21,7 @@ pub extern "C" fn skrapnefja_write_file(
     out: &mut [u8],
     written: &mut u64,
 ) -> u32
-    ensures { λ r. ⌜ result r (now (out .exit)) (now (written .exit)) ≡ resultOf (writeFile (codec (now (enc .entry)) (now (mac .entry))) (choice (now («header_nonce» .entry)) (now («content_key» .entry)) (now («chunk_nonces» .entry)) (now (cleartext .entry))) (now (out .entry))) (now (written .entry)) ⌝ }
+    ensures { λ r. ⌜ result r (now (out .exit)) (now (written .exit)) ≡ resultOf (writeFile (codec (now (enc .entry)) (now (mac .entry))) (ownChoice (now («header_nonce» .entry)) (now («content_key» .entry)) (now («chunk_nonces» .entry)) (now (cleartext .entry))) (now (out .entry))) (now (written .entry)) ⌝ }
 {
     end(
         write_file(

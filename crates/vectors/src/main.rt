@@ -152,14 +152,23 @@ fn stock_path() {
     line(&out);
 }
 
-// A header, and the content key that it opens to.
+// The content key and the reserved bytes that a header opens to.
+fn opened_header(enc: &[u8], mac: &[u8], header: &[u8]) {
+    let mut key = [0u8; 32];
+    let opened = open_header(enc, mac, header, &mut key);
+    print(&key);
+    print(&opened.reserved);
+}
+
+// A header, and what it opens to; and what the same header with other reserved bytes does.
 fn header(enc: &[u8], mac: &[u8], nonce: &[u8], content_key: &[u8]) {
     let mut header = [0u8; 68];
     write_header(enc, mac, nonce, content_key, &mut header);
     print(&header);
-    let mut key = [0u8; 32];
-    open_header(enc, mac, &header, &mut key);
-    print(&key);
+    opened_header(enc, mac, &header);
+    let other =
+        b"\xa0\xa1\xa2\xa3\xa4\xa5\xa6\xa7\xa8\xa9\xaa\xab\x67\x9a\xff\xa9\xc0\x4d\x85\x37\x22\x24\xc5\x90\x43\x3f\x86\x99\x38\xe5\x13\x5b\xde\xfa\x0c\x23\xcc\x5f\x74\xd5\x2b\xfe\x23\x56\x8a\x2f\x1d\xa4\xf3\x7f\x0d\x62\x6f\x1b\xad\x30\xe9\x4f\x48\x69\x5a\xdd\x45\x79\x78\x99\x94\xd4";
+    opened_header(enc, mac, other);
 }
 
 // A chunk whose number has eight different bytes, and what it opens to.

@@ -64,8 +64,8 @@ pub fn read_range(
     room(out, out_end)?;
 
     let (header, chunks) = file.split_first_chunk().expect("a header");
-    let content_key = header::open(&keys, header)?;
-    let cipher = ChunkCipher::new(&content_key, header::nonce(header));
+    let payload = header::open(&keys, header)?;
+    let cipher = ChunkCipher::new(&payload.content_key, header::nonce(header));
     for (number, chunk, _) in covering(chunks, from..end) {
         cipher.verify(number, chunk)?;
     }

@@ -1,4 +1,4 @@
-//! The file header: a nonce, then the content key by GCM.
+//! The file header: a nonce, then reserved bytes and the content key by GCM.
 
 use super::lengths::HEADER_LEN;
 use super::sizes::{put, room, sized, MasterKeys};
@@ -6,8 +6,18 @@ use super::Refusal;
 use crate::aes::KEY_LEN;
 use crate::gcm::{self, NONCE_LEN};
 
-/// What stands before the content key.
-const RESERVED: [u8; 8] = [0xff; 8];
+/// How many bytes stand before the content key. They are for later use, and
+/// some programs put a number there.
+pub const RESERVED_LEN: usize = 8;
+
+/// What a writer puts there.
+const OWN_RESERVED: [u8; RESERVED_LEN] = [0xff; RESERVED_LEN];
+
+/// What is under the header's tag.
+pub struct Payload {
+    pub reserved: [u8; RESERVED_LEN],
+    pub content_key: [u8; KEY_LEN],
+}
 
 pub fn write_header(
     enc: &[u8],
@@ -22,32 +32,36 @@ pub fn write_header(
     Ok(put(out, &seal(&keys, nonce, content_key)))
 }
 
-/// Writes the content key.
+/// Writes the content key, and gives the reserved bytes beside its length.
 pub fn open_header(
     enc: &[u8],
     mac: &[u8],
     header: &[u8],
     out: &mut [u8],
-) -> Result<usize, Refusal> {
+) -> Result<(usize, [u8; RESERVED_LEN]), Refusal> {
     let keys = MasterKeys::new(enc, mac)?;
     let header = header.try_into().map_err(|_| Refusal::Length)?;
     room(out, KEY_LEN)?;
-    let content_key = open(&keys, header)?;
-    Ok(put(out, &content_key))
+    let payload = open(&keys, header)?;
+    Ok((put(out, &payload.content_key), payload.reserved))
 }
 
 pub fn seal(keys: &MasterKeys, nonce: &[u8; NONCE_LEN], content_key: &[u8; KEY_LEN]) -> Vec<u8> {
-    let payload = [&RESERVED[..], content_key].concat();
+    let payload = [&OWN_RESERVED[..], content_key].concat();
     let sealed = gcm::seal(keys.enc, nonce, &[], &payload);
     [&nonce[..], &sealed].concat()
 }
 
-/// Gives the content key (row 9).
-pub fn open(keys: &MasterKeys, header: &[u8; HEADER_LEN]) -> Result<[u8; KEY_LEN], Refusal> {
+/// Gives the payload, whatever it is, if the tag is right (row 9).
+pub fn open(keys: &MasterKeys, header: &[u8; HEADER_LEN]) -> Result<Payload, Refusal> {
     let sealed = &header[NONCE_LEN..];
     let payload = gcm::open(keys.enc, nonce(header), &[], sealed).ok_or(Refusal::Header)?;
-    let content_key = payload.strip_prefix(&RESERVED).ok_or(Refusal::Header)?;
-    Ok(content_key.try_into().expect("the rest of a header"))
+    let (&reserved, content_key) = payload.split_first_chunk().expect("longer");
+    let content_key = content_key.try_into().expect("the rest of a header");
+    Ok(Payload {
+        reserved,
+        content_key,
+    })
 }
 
 pub fn nonce(header: &[u8; HEADER_LEN]) -> &[u8; NONCE_LEN] {
@@ -72,22 +86,24 @@ mod tests {
         assert_eq!(hex::decode(expected), Some(header.to_vec()));
         assert_eq!(rest, [7; 2]);
         let mut content_key = [7; 32];
-        let length = open_header(&[0; 32], &[1; 32], header, &mut content_key);
-        assert_eq!((length, content_key), (Ok(32), [0; 32]));
+        let opened = open_header(&[0; 32], &[1; 32], header, &mut content_key);
+        assert_eq!((opened, content_key), (Ok((32, OWN_RESERVED)), [0; 32]));
     }
 
-    /// The tag is right, but the payload is not that of a header.
+    /// The tag is right, and another program wrote the reserved bytes.
     #[test]
     fn reserved_bytes() {
         let (enc, nonce) = ([3; 32], [5; 12]);
-        for byte in 0..RESERVED.len() {
-            let mut payload = [0xff; 40];
-            payload[byte] = 0xfe;
+        for byte in 0..RESERVED_LEN {
+            let mut payload = [6; 40];
+            payload[..RESERVED_LEN].copy_from_slice(&1234u64.to_be_bytes());
+            payload[byte] ^= 0x80;
             let sealed = gcm::seal(&enc, &nonce, &[], &payload);
             let header = [&nonce[..], &sealed].concat();
             let mut out = [7; 32];
-            let length = open_header(&enc, &[0; 32], &header, &mut out);
-            assert_eq!((length, out), (Err(Refusal::Header), [7; 32]));
+            let opened = open_header(&enc, &[0; 32], &header, &mut out);
+            let reserved = payload[..RESERVED_LEN].try_into().expect("eight");
+            assert_eq!((opened, out), (Ok((32, reserved)), [6; 32]));
         }
     }
 }

@@ -20,7 +20,7 @@ pub enum Refusal {
     Room,
     /// Two chunks to write have the same nonce.
     RepeatedNonce,
-    /// The header's tag is wrong, or its reserved bytes are.
+    /// The header's tag is wrong.
     Header,
     /// The tag of the chunk with this number is wrong, and of none before it
     /// that the call needs.

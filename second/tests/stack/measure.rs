@@ -67,7 +67,8 @@ fn calls() -> Vec<(&'static str, usize)> {
         (
             "open_header",
             done(32, || {
-                skrapnefja::open_header(&ENC, &MAC, &header, &mut key)
+                let opened = skrapnefja::open_header(&ENC, &MAC, &header, &mut key)?;
+                Ok(opened.length)
             }),
         ),
         (

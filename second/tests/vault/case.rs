@@ -69,7 +69,8 @@ pub struct End {
     pub row: u32,
     /// The length written.
     pub length: u64,
-    /// The chunk's number, or the length of the full name.
+    /// The chunk's number, the length of the full name, or the header's reserved
+    /// bytes as a number.
     pub other: u64,
     pub buffers: Vec<Vec<u8>>,
 }

@@ -49,6 +49,9 @@ fn opens(
     let end = reader(&case);
     assert_eq!((end.row, end.length), (0, cleartext.len() as u64));
     assert!(end.buffers[0] == cleartext, "another cleartext");
+    if call == Call::OpenHeader {
+        assert_eq!(end.other, u64::MAX, "the reserved bytes of our writers");
+    }
     compare.tally.count(call, &end);
 }
 

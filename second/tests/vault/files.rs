@@ -1,6 +1,6 @@
 //! Whole files.
 
-use crate::case::{Case, End};
+use crate::case::{Call, Case, End};
 use crate::compare::Compare;
 use crate::fault::resize;
 use crate::make::{self, HEADER, MAX_CHUNK};
@@ -16,6 +16,7 @@ pub const PARTS: &[Part] = &[
     ("files: number of nonces", nonces),
     ("files: repeated nonces", repeated_nonces),
     ("files: sizes of keys and buffers", sizes),
+    ("files: reserved bytes of the header", reserved),
 ];
 
 /// Lengths of one chunk, two and three, and one byte more or less.
@@ -41,6 +42,31 @@ fn written_opens(compare: &mut Compare, len: usize) {
     let open = make::open_file(&mut compare.random, len);
     let end = compare.end(&open);
     assert_eq!((end.row, end.length), (0, len as u64));
+}
+
+/// Files that differ in the header's reserved bytes alone open alike, whole and
+/// in part.
+fn reserved(compare: &mut Compare) {
+    for len in [0, 1, 40, 32_768, 40_000] {
+        let whole = make::open_file(&mut compare.random, len);
+        let part = Case {
+            call: Call::ReadRange,
+            numbers: vec![len as u64 / 3, len as u64 / 2],
+            ..whole.clone()
+        };
+        for mut case in [whole, part] {
+            let enc = case.inputs[0].clone();
+            let mut end = |reserved: u64| {
+                make::set_reserved(&enc, &mut case.inputs[2], reserved.to_be_bytes());
+                compare.end(&case)
+            };
+            let own = end(u64::MAX);
+            assert_eq!(own.row, 0);
+            for other in [0, 1, len as u64, 0x0102_0304_0506_0708, u64::MAX - 1] {
+                assert!(end(other) == own, "{other:x}");
+            }
+        }
+    }
 }
 
 fn flipped(case: &Case, place: usize, mask: u8) -> Case {

@@ -1,10 +1,15 @@
 //! Single headers.
 
+use crate::case::End;
 use crate::compare::Compare;
 use crate::fault::resize;
 use crate::{make, Part};
 
-pub const PARTS: &[Part] = &[("headers: every bit", bits), ("headers: every size", sizes)];
+pub const PARTS: &[Part] = &[
+    ("headers: every bit", bits),
+    ("headers: every size", sizes),
+    ("headers: reserved bytes", reserved),
+];
 
 fn bits(compare: &mut Compare) {
     let case = make::open_header(&mut compare.random);
@@ -21,6 +26,22 @@ fn bits(compare: &mut Compare) {
         let mut other = case.clone();
         other.inputs[1][bit / 8] ^= 1 << (bit % 8);
         assert_eq!(compare.row(&other), 0);
+    }
+}
+
+/// Every value of each reserved byte, among others that all differ, is accepted
+/// under a right tag and returned.
+fn reserved(compare: &mut Compare) {
+    let mut case = make::open_header(&mut compare.random);
+    let enc = case.inputs[0].clone();
+    for place in 0..8 {
+        for value in 0..=255 {
+            let mut reserved = [1, 2, 3, 4, 5, 6, 7, 8];
+            reserved[place] = value;
+            make::set_reserved(&enc, &mut case.inputs[2], reserved);
+            let End { row, other, .. } = compare.end(&case);
+            assert_eq!((row, other.to_be_bytes()), (0, reserved));
+        }
     }
 }
 

@@ -77,7 +77,8 @@ fn run(
                     in enc, in mac, in nonce, in content_key, out out, val length,)
             }
             (Call::OpenHeader, [enc, mac, header], [], [out]) => {
-                call!(skrapnefja_open_header: in enc, in mac, in header, out out, val length,)
+                call!(skrapnefja_open_header:
+                    in enc, in mac, in header, out out, val length, val other,)
             }
             (Call::WriteChunk, [content_key, header_nonce, nonce, cleartext], &[number], [out]) => {
                 call!(skrapnefja_write_chunk:

@@ -18,14 +18,15 @@ pub fn end(case: &Case) -> End {
     }
 }
 
-/// Gives the length, and the length of the full name from a call that sets it.
+/// Gives the length, and from a call that sets it the other number.
 fn run(case: &Case, buffers: &mut [Vec<u8>]) -> Result<(u64, Option<u64>), Refusal> {
     let length = match (case.call, &case.inputs[..], &case.numbers[..], buffers) {
         (Call::WriteHeader, [enc, mac, nonce, content_key], [], [out]) => {
             vault::write_header(enc, mac, nonce, content_key, out)
         }
         (Call::OpenHeader, [enc, mac, header], [], [out]) => {
-            vault::open_header(enc, mac, header, out)
+            let (length, reserved) = vault::open_header(enc, mac, header, out)?;
+            return Ok((length as u64, Some(u64::from_be_bytes(reserved))));
         }
         (Call::WriteChunk, [content_key, header_nonce, nonce, cleartext], &[number], [out]) => {
             vault::write_chunk(content_key, header_nonce, number, nonce, cleartext, out)

@@ -11,9 +11,8 @@ use lib.Dec.{eqb}
 use borrow.Author.Tests.{not-true, not-false}
 use Rattle.octets.specs.Rows.{done, ended}
 use Rattle.frame.specs.Layout.{chunks, repeats, fileLength}
-use Rattle.frame.specs.Frame.{Codec, Choice, headRight}
-use Rattle.siv_gcm.specs.SivGcm.{sivGcm, headWith, masterKeysRight, codec}
-use Rattle.file_write.specs.Choices.{choice}
+use Rattle.frame.specs.Frame.{Codec, Choice, ownHead, ownChoice, headRight}
+use Rattle.siv_gcm.specs.SivGcm.{sivGcm, masterKeysRight, codec}
 use Rattle.file_write.proofs.Ends.{row-1, row-4, row-7, row-8, no-row, sizes-facts, front-length}
 use borrow.Author.Needs.{needs}
 use Rattle.file_write.proofs.write_file.Statement.{statement}
@@ -24,12 +23,12 @@ abbrev combo : tie.Start → Codec
 combo b = codec (b .args .enc .now) (b .args .mac .now)
 
 abbrev chosen : tie.Start → Choice
-chosen b = choice (b .args .header-nonce .now) (b .args .key .now) (b .args .nonces .now) (b .args .cleartext .now)
+chosen b = ownChoice (b .args .header-nonce .now) (b .args .key .now) (b .args .nonces .now) (b .args .cleartext .now)
 
 -- row 1 does not apply
 sizes : (c : tie.Else1) →
     let x = c .before .before .before .before .before .before .before .before .before .args in
-    (masterKeysRight (x .enc .now) (x .mac .now) && (headRight sivGcm (headWith (x .header-nonce .now) (x .key .now)) && eqb (length (x .nonces .now)) (12 * chunks (length (x .cleartext .now)))))
+    (masterKeysRight (x .enc .now) (x .mac .now) && (headRight sivGcm (ownHead (x .header-nonce .now) (x .key .now)) && eqb (length (x .nonces .now)) (12 * chunks (length (x .cleartext .now)))))
     ≡ true
 sizes c = sym (c .before .sizes-right .ensures) ∙ not-false _ (c .if1 .left)
 

@@ -4,7 +4,6 @@ use super::{flip, resize};
 use crate::case::{Call, Case};
 use crate::common::random::Random;
 use crate::make::{HEADER, MAX_CHUNK};
-use second::gcm;
 use second::vault::{self, CHUNK_LEN};
 
 pub fn length(case: &mut Case, random: &mut Random) {
@@ -85,18 +84,10 @@ pub fn repeated_nonce(case: &mut Case, random: &mut Random) -> bool {
     true
 }
 
-/// A wrong bit, or reserved bytes that are not all ones under a right tag.
+/// A wrong bit: of the nonce, of the reserved bytes or the content key as they
+/// are stored, or of the tag.
 pub fn header(case: &mut Case, random: &mut Random) {
-    let enc = case.inputs[0].clone();
-    let header = &mut case.inputs[2][..HEADER];
-    if random.below(4) > 0 {
-        return flip(header, random);
-    }
-    let (nonce, sealed) = header.split_first_chunk_mut().expect("a nonce");
-    let enc = &enc.try_into().expect("a key");
-    let mut payload = gcm::open(enc, nonce, &[], sealed).expect("genuine");
-    flip(&mut payload[..8], random);
-    sealed.copy_from_slice(&gcm::seal(enc, nonce, &[], &payload));
+    flip(&mut case.inputs[2][..HEADER], random);
 }
 
 /// Damages one covering chunk or more.

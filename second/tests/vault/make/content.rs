@@ -4,6 +4,7 @@ use super::sizes::number_of_chunk;
 use super::{answer, with_room, HEADER};
 use crate::case::{Call, Case};
 use crate::common::random::Random;
+use second::gcm;
 use second::vault::{self, CHUNK_LEN};
 
 pub fn write_header(random: &mut Random) -> Case {
@@ -11,11 +12,32 @@ pub fn write_header(random: &mut Random) -> Case {
     with_room(Call::WriteHeader, random, inputs, &[], HEADER)
 }
 
+/// The header has the reserved bytes of our writers, or any others.
 pub fn open_header(random: &mut Random) -> Case {
     let write = write_header(random);
-    let header = answer(&write);
+    let mut header = answer(&write);
+    any_reserved(random, &write.inputs[0], &mut header);
     let inputs = [&write.inputs[..2], &[header]].concat();
     with_room(Call::OpenHeader, random, inputs, &[], 32)
+}
+
+/// Seals the header at the front again with these reserved bytes.
+pub fn set_reserved(enc: &[u8], file: &mut [u8], reserved: [u8; 8]) {
+    let (nonce, sealed) = file[..HEADER].split_first_chunk_mut().expect("a nonce");
+    let enc = enc.try_into().expect("a key");
+    let mut payload = gcm::open(enc, nonce, &[], sealed).expect("genuine");
+    payload[..8].copy_from_slice(&reserved);
+    sealed.copy_from_slice(&gcm::seal(enc, nonce, &[], &payload));
+}
+
+/// Random bytes, a small number as old writers put there, or none of these.
+fn any_reserved(random: &mut Random, enc: &[u8], file: &mut [u8]) {
+    let reserved = match random.below(4) {
+        0 | 1 => random.word(),
+        2 => random.word() >> random.below(64),
+        _ => return,
+    };
+    set_reserved(enc, file, reserved.to_be_bytes());
 }
 
 pub fn write_chunk(random: &mut Random, len: usize) -> Case {
@@ -44,9 +66,11 @@ pub fn write_file(random: &mut Random, len: usize) -> Case {
     )
 }
 
+/// The same for the header of a file.
 pub fn open_file(random: &mut Random, len: usize) -> Case {
     let write = write_file(random, len);
-    let file = answer(&write);
+    let mut file = answer(&write);
+    any_reserved(random, &write.inputs[0], &mut file);
     let inputs = [&write.inputs[..2], &[file]].concat();
     with_room(Call::OpenFile, random, inputs, &[], len)
 }

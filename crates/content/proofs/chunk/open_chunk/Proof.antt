@@ -12,10 +12,10 @@ use lib.ListN.{length, take}
 use lib.Seq.{length-take-le}
 use Rattle.octets.specs.Rows.{done, refusedAt, ended}
 use Rattle.aes_spec.specs.Cipher.{aes}
-use Rattle.frame.specs.Frame.{headRight}
+use Rattle.frame.specs.Frame.{headWith, ownHead, headRight}
 use Rattle.frame.specs.Single.{openChunkRows}
 use Rattle.frame.proofs.Single.{single-ends}
-use Rattle.siv_gcm.specs.SivGcm.{sivGcm, headWith, opened, codec}
+use Rattle.siv_gcm.specs.SivGcm.{sivGcm, opened, codec}
 use Rattle.siv_gcm.proofs.KeySizes.{head-sizes}
 use Rattle.content.proofs.Calls.{within-sizes, front-filled, front-kept}
 use Rattle.content.proofs.chunk.open_chunk.Statement.{statement}
@@ -23,7 +23,7 @@ use Rattle.content.proofs.chunk.open_chunk.Tie as tie
 
 head : (c : tie.Else1) →
     let x = c .before .before .before .before .before .before .args in
-    headRight sivGcm (headWith (x .«header-nonce» .now) (x .key .now)) ≡ true
+    headRight sivGcm (ownHead (x .«header-nonce» .now) (x .key .now)) ≡ true
 head c = sym (c .before .head-right .ensures) ∙ not-false _ (c .if1 .left)
 
 sized : (c : tie.Else2) →
@@ -46,9 +46,9 @@ head-right-requires c κs = search needs
 
 returns : tie.Need-returns
 unfolding openChunkRows
-returns c enc mac =
+returns c enc mac reserved =
     let x = c .before .before .before .before .before .before .args in
-    let h = headWith (x .«header-nonce» .now) (x .key .now) in
+    let h = headWith (x .«header-nonce» .now) reserved (x .key .now) in
     let k = sym (c .before .head-right .ensures) ∙ not-true _ (c .if1 .taken) in
     sym (single-ends (codec enc mac) .3 h (x .number) (x .chunk .now) (x .out .now) .0 0 (lit≤ tt) .1 (ap not k))
 
@@ -57,9 +57,9 @@ within-requires c κs = search needs
 
 returns-2 : tie.Need-returns-2
 unfolding openChunkRows
-returns-2 c enc mac =
+returns-2 c enc mac reserved =
     let x = c .before .before .before .before .before .before .before .before .args in
-    let h = headWith (x .«header-nonce» .now) (x .key .now) in
+    let h = headWith (x .«header-nonce» .now) reserved (x .key .now) in
     let w = sym (c .before .within .ensures) ∙ not-true _ (c .if2 .taken) in
     sym (single-ends (codec enc mac) .3 h (x .number) (x .chunk .now) (x .out .now) .0 1 (lit≤ tt) .1 (ap not (head (c .before .before)), ap not w))
 
@@ -68,9 +68,9 @@ sub-n c = omega (arith, bounds c .0)
 
 returns-3 : tie.Need-returns-3
 unfolding openChunkRows
-returns-3 c enc mac =
+returns-3 c enc mac reserved =
     let x = c .before .before .before .before .before .before .before .before .before .args in
-    let h = headWith (x .«header-nonce» .now) (x .key .now) in
+    let h = headWith (x .«header-nonce» .now) reserved (x .key .now) in
     sym
     (single-ends (codec enc mac) .3 h (x .number) (x .chunk .now) (x .out .now) .0 2 (lit≤ tt) .1
     (ap not (head (c .before .before .before)), (ap not (sized (c .before)), lt-ltb _ _ (c .if3 .taken))))
@@ -94,11 +94,11 @@ same-length c = search needs
 
 returns-4 : tie.Need-returns-4
 unfolding openChunkRows
-returns-4 c enc mac =
+returns-4 c enc mac reserved =
     let o = c .before .before .before .open-under in
     let k = c .before .before .before .before .before in
     let x = k .before .before .before .before .before .before .before .before .before .args in
-    let h = headWith (x .«header-nonce» .now) (x .key .now) in
+    let h = headWith (x .«header-nonce» .now) reserved (x .key .now) in
     let d = x .out .now in
     let n = length (x .chunk .now) - 28 in
     let r = not-true _ (c .if4 .taken) in
@@ -113,11 +113,11 @@ same-length-2 c = search needs
 
 returns-5 : tie.Need-returns-5
 unfolding openChunkRows
-returns-5 c enc mac =
+returns-5 c enc mac reserved =
     let o = c .before .before .before .open-under in
     let k = c .before .before .before .before .before in
     let x = k .before .before .before .before .before .before .before .before .before .args in
-    let h = headWith (x .«header-nonce» .now) (x .key .now) in
+    let h = headWith (x .«header-nonce» .now) reserved (x .key .now) in
     let d = x .out .now in
     let n = length (x .chunk .now) - 28 in
     let s = opened (aes 8 (x .key .now)) (x .chunk .now) in

@@ -12,10 +12,10 @@ use lib.ListN.{length, take}
 use lib.Seq.{length-take-le}
 use Rattle.octets.specs.Rows.{done, ended}
 use Rattle.aes_spec.specs.Cipher.{aes}
-use Rattle.frame.specs.Frame.{headRight}
+use Rattle.frame.specs.Frame.{headWith, ownHead, headRight}
 use Rattle.frame.specs.Single.{writeChunkRows}
 use Rattle.frame.proofs.Single.{single-ends}
-use Rattle.siv_gcm.specs.SivGcm.{sivGcm, headWith, sealed, chunkData, codec}
+use Rattle.siv_gcm.specs.SivGcm.{sivGcm, sealed, chunkData, codec}
 use Rattle.siv_gcm.proofs.KeySizes.{head-sizes}
 use Rattle.content.proofs.Calls.{within-sizes, front-filled}
 use Rattle.content.proofs.chunk.write_chunk.Statement.{statement}
@@ -23,13 +23,13 @@ use Rattle.content.proofs.chunk.write_chunk.Tie as tie
 
 head : (c : tie.Else1) →
     let x = c .before .before .before .before .before .before .before .args in
-    headRight sivGcm (headWith (x .«header-nonce» .now) (x .key .now)) ≡ true
+    headRight sivGcm (ownHead (x .«header-nonce» .now) (x .key .now)) ≡ true
 head c = sym (c .before .head-right .ensures) ∙ not-false _ (c .if1 .left)
 
 -- row 1 does not apply
 sized : (c : tie.Else2) →
     let x = c .before .before .before .before .before .before .before .before .args in
-    not (headRight sivGcm (headWith (x .«header-nonce» .now) (x .key .now)) && eqb (length (x .nonce .now)) 12) ≡ false
+    not (headRight sivGcm (ownHead (x .«header-nonce» .now) (x .key .now)) && eqb (length (x .nonce .now)) 12) ≡ false
 sized c = ap₂ (λ (a b : Bool). not (a && b)) (head (c .before)) (eq-eqb _ _ (c .if2 .left))
 
 clear : (c : tie.Else3) →
@@ -47,9 +47,9 @@ head-right-requires c κs = search needs
 
 returns : tie.Need-returns
 unfolding writeChunkRows
-returns c enc mac =
+returns c enc mac reserved =
     let x = c .before .before .before .before .before .before .before .args in
-    let h = headWith (x .«header-nonce» .now) (x .key .now) in
+    let h = headWith (x .«header-nonce» .now) reserved (x .key .now) in
     let k = sym (c .before .head-right .ensures) ∙ not-true _ (c .if1 .taken) in
     sym
     (single-ends (codec enc mac) .2 h (x .number) (x .nonce .now) (x .cleartext .now) (x .out .now) .0 0 (lit≤ tt) .1
@@ -57,9 +57,9 @@ returns c enc mac =
 
 returns-2 : tie.Need-returns-2
 unfolding writeChunkRows
-returns-2 c enc mac =
+returns-2 c enc mac reserved =
     let x = c .before .before .before .before .before .before .before .before .args in
-    let h = headWith (x .«header-nonce» .now) (x .key .now) in
+    let h = headWith (x .«header-nonce» .now) reserved (x .key .now) in
     sym
     (single-ends (codec enc mac) .2 h (x .number) (x .nonce .now) (x .cleartext .now) (x .out .now) .0 0 (lit≤ tt) .1
     (ap₂ (λ (a b : Bool). not (a && b)) (head (c .before)) (ne-eqb _ _ (c .if2 .taken))))
@@ -69,9 +69,9 @@ within-requires c κs = search needs
 
 returns-3 : tie.Need-returns-3
 unfolding writeChunkRows
-returns-3 c enc mac =
+returns-3 c enc mac reserved =
     let x = c .before .before .before .before .before .before .before .before .before .before .args in
-    let h = headWith (x .«header-nonce» .now) (x .key .now) in
+    let h = headWith (x .«header-nonce» .now) reserved (x .key .now) in
     let w = sym (c .before .within .ensures) ∙ not-true _ (c .if3 .taken) in
     sym (single-ends (codec enc mac) .2 h (x .number) (x .nonce .now) (x .cleartext .now) (x .out .now) .0 1 (lit≤ tt) .1 (sized (c .before .before), ap not w))
 
@@ -80,9 +80,9 @@ add-n c = search needs
 
 returns-4 : tie.Need-returns-4
 unfolding writeChunkRows
-returns-4 c enc mac =
+returns-4 c enc mac reserved =
     let x = c .before .before .before .before .before .before .before .before .before .before .before .args in
-    let h = headWith (x .«header-nonce» .now) (x .key .now) in
+    let h = headWith (x .«header-nonce» .now) reserved (x .key .now) in
     sym
     (single-ends (codec enc mac) .2 h (x .number) (x .nonce .now) (x .cleartext .now) (x .out .now) .0 2 (lit≤ tt) .1
     (sized (c .before .before .before), (ap not (clear (c .before)), lt-ltb _ _ (c .if4 .taken))))
@@ -106,11 +106,11 @@ same-length c = search needs
 
 returns-5 : tie.Need-returns-5
 unfolding writeChunkRows
-returns-5 c enc mac =
+returns-5 c enc mac reserved =
     let s = c .before .before .seal-under in
     let k = c .before .before .before .before in
     let x = k .before .before .before .before .before .before .before .before .before .before .before .args in
-    let h = headWith (x .«header-nonce» .now) (x .key .now) in
+    let h = headWith (x .«header-nonce» .now) reserved (x .key .now) in
     let n = length (x .cleartext .now) + 28 in
     let b = sealed (aes 8 (x .key .now)) (chunkData (x .«header-nonce» .now) (x .number)) (x .nonce .now) (x .cleartext .now) in
     ap (ended (done (n ∷ []))) (front-filled (s .last .1 .1 .1 .1 .1 .0) (x .out .now) n b (s .kept .1 .1 .1 .1 .1 .0) (s .ensures))

@@ -11,10 +11,10 @@ use lib.Dec.{lit≤}
 use lib.ListN.{length, take}
 use lib.Seq.{length-take-le}
 use Rattle.octets.specs.Rows.{done, ended}
-use Rattle.frame.specs.Frame.{headRight}
+use Rattle.frame.specs.Frame.{ownHead, headRight}
 use Rattle.frame.specs.Single.{writeHeaderRows}
 use Rattle.frame.proofs.Single.{single-ends}
-use Rattle.siv_gcm.specs.SivGcm.{sivGcm, headWith, headerOf, masterKeysRight, codec}
+use Rattle.siv_gcm.specs.SivGcm.{sivGcm, headerOf, masterKeysRight, codec}
 use Rattle.siv_gcm.proofs.KeySizes.{master-sizes, head-sizes}
 use Rattle.content.proofs.Calls.{front-filled}
 use Rattle.content.proofs.header.write_header.Statement.{statement}
@@ -27,7 +27,7 @@ keys c = sym (c .before .master-keys-right .ensures) ∙ not-false _ (c .if1 .le
 
 head : (c : tie.Else2) →
     let x = c .before .before .before .before .before .before .before .before .before .args in
-    headRight sivGcm (headWith (x .nonce .now) (x .key .now)) ≡ true
+    headRight sivGcm (ownHead (x .nonce .now) (x .key .now)) ≡ true
 head c = sym (c .before .head-right .ensures) ∙ not-false _ (c .if2 .left)
 
 room : (c : tie.Else3) → length (take 68 (c .before .before .before .before .before .before .before .before .before .before .args .out .now)) ≡ 68
@@ -40,7 +40,7 @@ returns : tie.Need-returns
 unfolding writeHeaderRows
 returns c =
     let x = c .before .before .before .before .before .before .before .args in
-    let h = headWith (x .nonce .now) (x .key .now) in
+    let h = ownHead (x .nonce .now) (x .key .now) in
     let k = sym (c .before .master-keys-right .ensures) ∙ not-true _ (c .if1 .taken) in
     sym (single-ends (codec (x .enc .now) (x .mac .now)) .0 h (x .out .now) .0 0 (lit≤ tt) .1 (ap (λ (b : Bool). not (b && headRight sivGcm h)) k))
 
@@ -51,7 +51,7 @@ returns-2 : tie.Need-returns-2
 unfolding writeHeaderRows
 returns-2 c =
     let x = c .before .before .before .before .before .before .before .before .before .args in
-    let h = headWith (x .nonce .now) (x .key .now) in
+    let h = ownHead (x .nonce .now) (x .key .now) in
     let n = sym (c .before .head-right .ensures) ∙ not-true _ (c .if2 .taken) in
     sym (single-ends (codec (x .enc .now) (x .mac .now)) .0 h (x .out .now) .0 0 (lit≤ tt) .1 (ap₂ (λ (a b : Bool). not (a && b)) (keys (c .before .before)) n))
 
@@ -59,7 +59,7 @@ returns-3 : tie.Need-returns-3
 unfolding writeHeaderRows
 returns-3 c =
     let x = c .before .before .before .before .before .before .before .before .before .before .args in
-    let h = headWith (x .nonce .now) (x .key .now) in
+    let h = ownHead (x .nonce .now) (x .key .now) in
     let k = ap₂ (λ (a b : Bool). not (a && b)) (keys (c .before .before .before)) (head (c .before)) in
     sym (single-ends (codec (x .enc .now) (x .mac .now)) .0 h (x .out .now) .0 1 (lit≤ tt) .1 (k, lt-ltb _ _ (c .if3 .taken)))
 
@@ -89,7 +89,7 @@ returns-4 c =
     let s = c .before .before .seal-header in
     let k = c .before .before .before .before .before .before in
     let x = k .before .before .before .before .before .before .before .before .before .before .args in
-    let h = headWith (x .nonce .now) (x .key .now) in
+    let h = ownHead (x .nonce .now) (x .key .now) in
     let r = ap₂ (λ (a b : Bool). not (a && b)) (keys (k .before .before .before)) (head (k .before)) in
     ap (ended (done (68 ∷ []))) (front-filled (s .last .1 .1 .1 .1 .0) (x .out .now) 68 (headerOf (x .enc .now) h) (s .kept .1 .1 .1 .1 .0) (s .ensures))
     ∙ sym (single-ends (codec (x .enc .now) (x .mac .now)) .0 h (x .out .now) .1 .1 (r, (le-ltb _ _ (k .if3 .left), tt)))

@@ -3,7 +3,7 @@
 use borrow.Author.Needs.{needs}
 use Rattle.file_read.proofs.inside.read_inside.Statement.{statement}
 use Rattle.file_read.proofs.inside.read_inside.Tie as tie
-use Prim.Native.Nat.{ℕ, _+_, _≤_}
+use Prim.Native.Nat.{ℕ, _-_}
 use mathlib.Core.Path.{_≡_, sym, ap, _∙_}
 use mathlib.Core.Bool.{Bool, true, false, cond}
 use mathlib.Core.List.{List, [], _∷_}
@@ -12,14 +12,15 @@ use native.Mathlib.Omega.{arith}
 use lib.ListN.{length, take, replicate}
 use lib.Seq.{length-take-le}
 use Rattle.octets.specs.Rows.{done, refused}
-use Rattle.frame.specs.Layout.{fileLength, clearLength, rightLength, headerAt}
-use Rattle.frame.specs.Frame.{Head, readRange}
+use Rattle.frame.specs.Layout.{fileLength, rightLength, headerAt}
+use Rattle.frame.specs.Frame.{payloadOf}
 use Rattle.frame.proofs.Lengths.{file-clear}
 use Rattle.frame.proofs.Success.{read-ends}
 use Rattle.frame.proofs.Answers.{row-9}
-use Rattle.siv_gcm.specs.SivGcm.{sivGcm, headWith, headOf, headerGood, codec}
+use Rattle.siv_gcm.specs.SivGcm.{sivGcm, headOf, headerGood, codec}
+use Rattle.siv_gcm.proofs.Payloads.{key-part}
 use Rattle.file_read.specs.Under.{readUnder}
-use Rattle.file_read.proofs.Under.{head-said, read-under}
+use Rattle.file_read.proofs.Under.{read-under}
 
 -- the file holds a header
 long : (f : List ℕ) → rightLength sivGcm (length f) ≡ true → length (take 68 f) ≡ 68
@@ -56,14 +57,20 @@ returns c mac k =
     (read-ends C (x .file .now) (x .from) (x .count) (x .out .now) (refused 9)
     (row-9 C (x .file .now) (x .from) (x .count) (length (x .out .now)) (done (x .count ∷ [])) k (i .pre .1) (omega (arith, i .pre .2, i .pre .3)) (i .pre .4) h))
 
-slice-aggregate-read-under : tie.Need-slice-aggregate-read-under
-slice-aggregate-read-under c = search needs
+sub-read-under : tie.Need-sub-read-under
+sub-read-under c = search needs
+
+part-read-under-start : tie.Need-part-read-under-start
+part-read-under-start c = search needs
+
+part-read-under-end : tie.Need-part-read-under-end
+part-read-under-end c = search needs
 
 read-under-requires : tie.Need-read-under-requires
 read-under-requires c κs =
-    let i = c .before .before .before .before .before .before .before .before .before .before .before .before .before in
+    let i = c .before .before .before .before .before .before .before .before .before .before .before .before .before .before in
     let x = i .args in
-    (c .before .before .before .before .before .before .before .before .before .table .ensures, (search needs, file-clear sivGcm (length (x .file .now)) (i .pre .1) ∙ ap (fileLength sivGcm) (sym (i .pre .2)), i .pre .3, i .pre .4))
+    (c .before .before .before .before .before .before .before .before .before .before .table .ensures, (search needs, file-clear sivGcm (length (x .file .now)) (i .pre .1) ∙ ap (fileLength sivGcm) (sym (i .pre .2)), i .pre .3, i .pre .4))
 
 same-length : tie.Need-same-length
 same-length c = search needs
@@ -71,16 +78,17 @@ same-length c = search needs
 returns-2 : tie.Need-returns-2
 unfolding headerAt
 returns-2 c mac k =
-    let o = c .before .before .before .before .before .before .before .before in
+    let o = c .before .before .before .before .before .before .before .before .before in
     let i = o .before .before .before .before .before .before .before .before in
     let x = i .args in
     let f = x .file .now in
-    let t : o .open-header .result ≡ true = not-false (o .open-header .result) (c .before .before .before .before .before .before .if1 .left) in
+    let t : o .open-header .result ≡ true = not-false (o .open-header .result) (c .before .before .before .before .before .before .before .if1 .left) in
     let h : headerGood (x .enc .now) (headerAt sivGcm f) ≡ true = sym (tested o) ∙ t in
-    let key : o .open-header .last .1 .1 .1 .0 ≡ headOf (x .enc .now) (headerAt sivGcm f) .key =
-    o .open-header .ensures .1 ∙ ap (λ (b : Bool). cond b (headOf (x .enc .now) (take 68 f) .key) (replicate 32 0)) t in
+    let p = o .open-header .last .1 .1 .1 .0 in
+    let said : p ≡ payloadOf (headOf (x .enc .now) (take 68 f)) = o .open-header .ensures .1 ∙ ap (λ (b : Bool). cond b (payloadOf (headOf (x .enc .now) (take 68 f))) (replicate 40 0)) t in
+    let n : length p ≡ 40 = search needs in
     c .before .before .read-under .ensures
-    ∙ ap (λ (s : Head). readUnder s f (x .from) (x .count) (x .out .now)) (ap (headWith (take 12 f)) key ∙ head-said (x .enc .now) mac f)
+    ∙ ap (λ (key : List ℕ). readUnder (take 12 f) key f (x .from) (x .count) (x .out .now)) (key-part (x .enc .now) (take 68 f) p said n)
     ∙ sym (read-under (x .enc .now) mac f (x .from) (x .count) (x .out .now) k (i .pre .1) (omega (arith, i .pre .2, i .pre .3)) (i .pre .4) h)
 
 pub read-inside-spec : {M : Type 1} → statement M
@@ -92,7 +100,9 @@ read-inside-spec =
     slice-aggregate-open-header-2
     open-header-requires
     returns
-    slice-aggregate-read-under
+    sub-read-under
+    part-read-under-start
+    part-read-under-end
     read-under-requires
     same-length
     returns-2)

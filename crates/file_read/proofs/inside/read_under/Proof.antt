@@ -15,7 +15,7 @@ use Rattle.octets.specs.Rows.{done, refusedAt, ended}
 use Rattle.aes_spec.specs.Cipher.{cipher}
 use Rattle.frame.specs.Layout.{chunkSize, covering, fileLength, chunkAt, lowestBad, allParts}
 use Rattle.frame.proofs.Pieces.{covers-end, below-good}
-use Rattle.siv_gcm.specs.SivGcm.{sivGcm, headWith}
+use Rattle.siv_gcm.specs.SivGcm.{sivGcm}
 use Rattle.file_read.specs.Under.{goodUnder, plainUnder, badUnder}
 use Rattle.file_read.proofs.Under.{under-bad, under-good}
 
@@ -26,7 +26,7 @@ long f n h = length-take-le 12 f (omega arith)
 -- the lowest bad chunk, under the content key
 found : (c : tie.After-lowest-bad) →
     let x = c .before .before .before .before .before .before .before .before .before .before .before .before .before .args in
-    c .lowest-bad .result ≡ badUnder (headWith (take 12 (x .file .now)) (x .key .now)) (x .file .now) (x .from) (x .count)
+    c .lowest-bad .result ≡ badUnder (take 12 (x .file .now)) (x .key .now) (x .file .now) (x .from) (x .count)
 unfolding badUnder
 found c =
     let k = c .before .before .before .before .before .before .before in
@@ -69,7 +69,7 @@ returns c =
     let f = found (c .before) in
     let e = c .before .before .before .before .before .end-chunk .ensures in
     ap (λ (i : ℕ). ended (refusedAt 10 i) (x .out .now)) f
-    ∙ sym (under-bad (headWith (take 12 (x .file .now)) (x .key .now)) (x .file .now) (x .from) (x .count) (x .out .now) (omega (arith, f, e, c .if1 .taken)))
+    ∙ sym (under-bad (take 12 (x .file .now)) (x .key .now) (x .file .now) (x .from) (x .count) (x .out .now) (omega (arith, f, e, c .if1 .taken)))
 
 slice-aggregate-write-range : tie.Need-slice-aggregate-write-range
 slice-aggregate-write-range c = search needs
@@ -99,7 +99,7 @@ returns-2 c =
     let e = b .before .before .before .before .before .end-chunk .ensures in
     ap (ended (done (x .count ∷ []))) (c .before .before .write-range .ensures
     ∙ ap (λ (p : List ℕ → List ℕ). filled (drop (x .from) (allParts sivGcm (plainUnder p) (x .file .now))) (x .count) (x .out .now)) (k .prepare .ensures .1))
-    ∙ sym (under-good (headWith (take 12 (x .file .now)) (x .key .now)) (x .file .now) (x .from) (x .count) (x .out .now) (omega (arith, f, e, b .if1 .left)))
+    ∙ sym (under-good (take 12 (x .file .now)) (x .key .now) (x .file .now) (x .from) (x .count) (x .out .now) (omega (arith, f, e, b .if1 .left)))
 
 pub read-under-spec : {M : Type 1} → statement M
 read-under-spec =

@@ -10,11 +10,12 @@ use native.Mathlib.Omega.{arith}
 use lib.ListN.{length, replicate}
 use Rattle.octets.specs.Bytes.{placed}
 use Rattle.octets.proofs.Lists.{drop-all}
-use Rattle.siv_gcm.specs.SivGcm.{sealed, reserved, headerOf}
+use Rattle.frame.specs.Frame.{payloadOf, ownHead}
+use Rattle.siv_gcm.specs.SivGcm.{sealed, headerOf}
 
 -- the content key behind the eight bytes
-behind : (k : List ℕ) → length k ≡ 32 → placed k 8 (replicate 40 255) ≡ reserved ++ k
-behind k h = ap (λ (l : List ℕ). reserved ++ k ++ l) (drop-all (8 + length k) (replicate 40 255) (omega arith)) ∙ ap (λ (l : List ℕ). reserved ++ l) (append-nil k)
+behind : (n k : List ℕ) → length k ≡ 32 → placed k 8 (replicate 40 255) ≡ payloadOf (ownHead n k)
+behind n k h = ap (λ (l : List ℕ). replicate 8 255 ++ l) (ap (λ (l : List ℕ). k ++ l) (drop-all (8 + length k) (replicate 40 255) (omega arith)) ∙ append-nil k)
 
 slice-aggregate-prepare : tie.Need-slice-aggregate-prepare
 slice-aggregate-prepare c = search needs
@@ -56,7 +57,7 @@ returns c =
     let x = k .before .before .before .before .before .before .before in
     c .before .before .seal .ensures
     ∙ ap₂ (λ (e : List ℕ → List ℕ) (s : List ℕ). sealed e [] (x .args .nonce .now) s) (k .prepare .ensures .1)
-    (c .before .before .before .before .before .before .before .before .before .copy-at .ensures ∙ behind (x .args .key .now) (x .pre .1 .2))
+    (c .before .before .before .before .before .before .before .before .before .copy-at .ensures ∙ behind (x .args .nonce .now) (x .args .key .now) (x .pre .1 .2))
 
 pub seal-header-spec : {M : Type 1} → statement M
 seal-header-spec =

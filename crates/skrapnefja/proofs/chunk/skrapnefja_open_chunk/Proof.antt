@@ -15,9 +15,9 @@ same-length : tie.Need-same-length
 same-length c = search needs
 
 returns : tie.Need-returns
-returns c enc mac =
+returns c enc mac reserved =
     let x = c .before .before .before .before .before .before .before .before .before .before .before .args in
-    joined-at (x .written .now) (c .before .before .before .before .before .open-chunk .ensures enc mac) (x .at .now) (c .end-at .ensures)
+    joined-at (x .written .now) (c .before .before .before .before .before .open-chunk .ensures enc mac reserved) (x .at .now) (c .end-at .ensures)
 
 pub skrapnefja-open-chunk-spec : {M : Type 1} → statement M
 skrapnefja-open-chunk-spec =

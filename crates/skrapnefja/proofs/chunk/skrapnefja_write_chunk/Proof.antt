@@ -15,9 +15,9 @@ same-length : tie.Need-same-length
 same-length c = search needs
 
 returns : tie.Need-returns
-returns c enc mac =
+returns c enc mac reserved =
     let x = c .before .before .before .before .before .before .before .before .before .before .before .args in
-    joined (x .written .now) (c .before .before .before .before .write-chunk .ensures enc mac) (c .end .ensures)
+    joined (x .written .now) (c .before .before .before .before .write-chunk .ensures enc mac reserved) (c .end .ensures)
 
 pub skrapnefja-write-chunk-spec : {M : Type 1} → statement M
 skrapnefja-write-chunk-spec =
