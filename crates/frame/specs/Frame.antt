@@ -53,8 +53,8 @@ payloadOf h = h .reserved ++ h .key
 abbrev pub headWith : List ℕ → List ℕ → List ℕ → Head
 headWith n r k = record { nonce = n; reserved = r; key = k }
 
--- The writers of this library write eight bytes FF: what their header of the nonce n and the content key k says, and what their file writer
--- chooses, which is lent those two, the nonces ns of the chunks and the cleartext p.
+-- The writers of this library write eight bytes FF. What the header says that they write for the nonce n and the content key k; and the choice
+-- of their file writer, which is also lent the chunks' nonces ns and the cleartext p.
 abbrev pub ownHead : List ℕ → List ℕ → Head
 ownHead n k = headWith n (replicate reservedSize 0xff) k
 
