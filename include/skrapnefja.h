@@ -34,7 +34,7 @@ enum skrapnefja_row {
     SKRAPNEFJA_DONE = 0,
     SKRAPNEFJA_KEY_OR_NONCE_SIZE = 1, /* a key has not 32 bytes, a nonce not 12, or there is not one nonce for each chunk */
     SKRAPNEFJA_DIRECTORY_ID = 2,      /* the directory ID has more than 36 bytes, or one that is not ASCII */
-    SKRAPNEFJA_NAME_SIZE = 3,         /* the name to write has no byte, or more than 255 */
+    SKRAPNEFJA_NAME_SIZE = 3,         /* the name to write has no byte, or more than 1,020 */
     SKRAPNEFJA_LENGTH = 4,            /* no file has this length, or the cleartext is over the limit; a header isn't 68 bytes; a
                                          chunk's cleartext isn't 1 to 32,768 bytes, or the chunk not 29 to 32,796 */
     SKRAPNEFJA_TEXT = 5,              /* the text of a name is broken; or of more than 220 characters at skrapnefja_open_name */
@@ -56,9 +56,9 @@ enum skrapnefja_row {
 #define SKRAPNEFJA_CLEARTEXT_MAX 16777216 /* the cleartext of a file, at most */
 #define SKRAPNEFJA_DIR_ID_MAX 36          /* a directory ID, at most */
 #define SKRAPNEFJA_PATH_SIZE 36           /* the path of a directory */
-#define SKRAPNEFJA_NAME_MAX 255           /* a name, at most */
+#define SKRAPNEFJA_NAME_MAX 1020          /* a name, at most */
 #define SKRAPNEFJA_STORED_NAME_MAX 220    /* a name as it is stored, at most */
-#define SKRAPNEFJA_FULL_NAME_MAX 368      /* the full name of a shortened name, at most */
+#define SKRAPNEFJA_FULL_NAME_MAX 1388     /* the full name of a shortened name, at most */
 
 /* ---- Lengths: by these a caller sizes its buffers. */
 
@@ -128,13 +128,14 @@ uint32_t skrapnefja_open_chunk(const uint8_t *content_key, size_t content_key_le
 /*
  * ---- Names and directories. A directory ID is text of at most 36 bytes; that of the root is empty. A full name is the encrypted
  * name as text that ends in ".c9r". Up to 220 characters it is what is stored; in place of a longer one its hash name is stored,
- * 32 characters that end in ".c9s".
+ * 32 characters that end in ".c9s". Buffers of SKRAPNEFJA_STORED_NAME_MAX, SKRAPNEFJA_FULL_NAME_MAX and SKRAPNEFJA_NAME_MAX bytes
+ * have room for any name: row 7 is not given.
  */
 
 /*
- * Writes what is stored for a name of 1 to 255 bytes in the directory with this ID. Where the full name is stored, `length` is its
+ * Writes what is stored for a name of 1 to 1,020 bytes in the directory with this ID. Where the full name is stored, `length` is its
  * length, `full_length` is 0, and `full` is neither needed nor written. Where it is shortened, `stored` gets the hash name, and
- * `full` the full name, of `full_length` characters, at most 368. Rows 1, 2, 3, 7.
+ * `full` the full name, of `full_length` characters, at most 1,388. Rows 1, 2, 3, 7.
  */
 uint32_t skrapnefja_write_name(const uint8_t *enc, size_t enc_len, const uint8_t *mac, size_t mac_len,
                                const uint8_t *dir_id, size_t dir_id_len, const uint8_t *name, size_t name_len,

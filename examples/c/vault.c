@@ -1,5 +1,5 @@
 /*
- * Writes a vault file of two chunks and reads it back, then writes a name and opens it. Ends with status 0 if all is as expected.
+ * Writes a vault file of two chunks and reads it back, then writes two names and opens them. Ends with status 0 if all is as expected.
  * Keys and nonces are fixed here so that each run prints the same; a real program draws them from a random generator.
  */
 #include <inttypes.h>
@@ -151,6 +151,35 @@ static void write_and_open_a_name(void)
     printf("opened it: %.*s\n", (int)length, (const char *)out);
 }
 
+/* A long name is stored as its hash name; its full name is kept beside that, and both are needed to open it. */
+static void write_and_open_a_long_name(void)
+{
+    static const uint8_t letter[] = {0xE1, 0x83, 0x90}; /* a letter of the Georgian alphabet, U+10D0, in UTF-8 */
+    uint8_t name[100 * sizeof letter];
+    uint8_t stored[SKRAPNEFJA_STORED_NAME_MAX];
+    uint8_t full[SKRAPNEFJA_FULL_NAME_MAX];
+    uint8_t out[SKRAPNEFJA_NAME_MAX];
+    uint64_t stored_length = 0;
+    uint64_t full_length = 0;
+    uint64_t length = 0;
+    size_t i;
+
+    for (i = 0; i < sizeof name; i++) {
+        name[i] = letter[i % sizeof letter];
+    }
+    check(skrapnefja_write_name(enc, sizeof enc, mac, sizeof mac, enc, 0, name, sizeof name, stored, sizeof stored, full,
+                                sizeof full, &stored_length, &full_length) == SKRAPNEFJA_DONE,
+          "writing the long name");
+    check(stored_length == 32 && full_length == 428, "lengths of the long name");
+    printf("stored a name of 100 letters as %.*s\n", (int)stored_length, (const char *)stored);
+
+    check(skrapnefja_open_long_name(enc, sizeof enc, mac, sizeof mac, enc, 0, stored, (size_t)stored_length, full,
+                                    (size_t)full_length, out, sizeof out, &length) == SKRAPNEFJA_DONE,
+          "opening the long name");
+    check(length == sizeof name && memcmp(out, name, sizeof name) == 0, "the long name");
+    printf("opened it: %" PRIu64 " bytes\n", length);
+}
+
 int main(void)
 {
     write_the_file();
@@ -159,5 +188,6 @@ int main(void)
     read_ranges();
     damage_the_second_chunk();
     write_and_open_a_name();
+    write_and_open_a_long_name();
     return 0;
 }

@@ -1,4 +1,4 @@
-//! Writes a file and a name as a vault stores them, and reads both again.
+//! Writes a file and two names as a vault stores them, and reads them again.
 
 use skrapnefja::{Refusal, WrittenName};
 
@@ -62,5 +62,28 @@ fn main() -> Result<(), Refusal> {
     let mut name = [0; skrapnefja::MAX_NAME_LEN];
     let length = skrapnefja::open_name(&enc, &mac, b"", stored, &mut name)?;
     println!("which is {}", String::from_utf8_lossy(&name[..length]));
+    long_name(&enc, &mac)
+}
+
+/// A long name is stored as its hash name. Its full name is kept beside that,
+/// and both are needed to open it.
+fn long_name(enc: &[u8], mac: &[u8]) -> Result<(), Refusal> {
+    let name = "\u{10d0}".repeat(100);
+    let mut stored = [0; skrapnefja::MAX_STORED_LEN];
+    let mut full = [0; skrapnefja::MAX_FULL_LEN];
+    let written = skrapnefja::write_name(enc, mac, b"", name.as_bytes(), &mut stored, &mut full)?;
+    let WrittenName::Shortened { stored: s, full: f } = written else {
+        unreachable!("the full name of 300 bytes has more than 220 characters");
+    };
+    let (stored, full) = (&stored[..s], &full[..f]);
+    println!(
+        "{} bytes stored as {}",
+        name.len(),
+        String::from_utf8_lossy(stored)
+    );
+
+    let mut opened = [0; skrapnefja::MAX_NAME_LEN];
+    let length = skrapnefja::open_long_name(enc, mac, b"", stored, full, &mut opened)?;
+    assert_eq!(&opened[..length], name.as_bytes());
     Ok(())
 }

@@ -4,13 +4,13 @@ use crate::call::{done, safely};
 use crate::Refusal;
 
 /// The longest name, in bytes.
-pub const MAX_NAME_LEN: usize = 255;
+pub const MAX_NAME_LEN: usize = 1020;
 
 /// The longest stored name.
 pub const MAX_STORED_LEN: usize = 220;
 
 /// The longest full name.
-pub const MAX_FULL_LEN: usize = 368;
+pub const MAX_FULL_LEN: usize = 1388;
 
 /// The bytes in the path of a directory.
 pub const PATH_LEN: usize = 36;
@@ -30,7 +30,8 @@ pub enum WrittenName {
 }
 
 /// Encrypts a name. The stored name goes to `stored`; if it is shortened, the
-/// full name goes to `full`, which otherwise stays and may be empty. Refused
+/// full name goes to `full`, which otherwise stays and may be empty. Buffers of
+/// [`MAX_STORED_LEN`] and [`MAX_FULL_LEN`] bytes have room for any name. Refused
 /// with rows 1, 2, 3 and 7.
 pub fn write_name(
     enc: &[u8],

@@ -12,7 +12,7 @@ pub enum Refusal {
     KeyOrNonceSize,
     /// Row 2: the directory ID has more than 36 bytes, or one of 128 or more.
     DirectoryId,
-    /// Row 3: the name to write has no bytes, or more than 255.
+    /// Row 3: the name to write has no bytes, or more than 1,020.
     NameSize,
     /// Row 4: no file has this length, or the cleartext is over 16,777,216
     /// bytes; a header is not 68 bytes; a chunk's cleartext is not 1 to 32,768

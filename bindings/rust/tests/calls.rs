@@ -269,6 +269,29 @@ fn shortened_names() {
     assert_eq!(open(&MAC, b"", &stored, &full, 147), 12);
 }
 
+/// The sizes that are named are those of the longest names, plain and
+/// shortened.
+#[test]
+fn longest_names() {
+    let name: Vec<_> = (0..=MAX_NAME_LEN).map(|i| b'a' + (i % 26) as u8).collect();
+    let (longest, rest) = name.split_at(1020);
+    assert_eq!(rest.len(), 1);
+    let (plain, none) = written(&longest[..146]);
+    assert_eq!((plain.len(), none.len()), (MAX_STORED_LEN, 0));
+    let (stored, full) = written(longest);
+    assert_eq!((stored.len(), full.len()), (32, MAX_FULL_LEN));
+    let opened = done(MAX_NAME_LEN, |out| {
+        open_long_name(&ENC, &MAC, ID, &stored, &full, out)
+    });
+    assert_eq!(opened, longest);
+
+    let row = refused(MAX_STORED_LEN, |out| {
+        write_name(&ENC, &MAC, ID, &name, out, &mut [0; MAX_FULL_LEN])
+    })
+    .row();
+    assert_eq!(row, 3);
+}
+
 #[test]
 fn paths() {
     let path = done(36, |out| dir_path(&[0x55; 32], &[0x77; 32], b"", out));

@@ -1,5 +1,7 @@
-//! The functions are declared here as they are in `include/skrapnefja.h`.
+//! The functions are declared here as they are in `include/skrapnefja.h`, and the
+//! sizes are the same.
 
+use skrapnefja::*;
 use std::collections::BTreeMap;
 
 const HEADER: &str = include_str!("../../../include/skrapnefja.h");
@@ -13,6 +15,37 @@ fn same_functions() {
     let (c, rust) = (c_functions(), rust_functions());
     assert_eq!(c.len(), 13);
     assert_eq!(rust, c);
+}
+
+#[test]
+fn same_sizes() {
+    let c = c_sizes();
+    assert_eq!(c.len(), 11);
+    for (name, size) in [
+        ("KEY_SIZE", 32),
+        ("NONCE_SIZE", 12),
+        ("DIR_ID_MAX", 36),
+        ("HEADER_SIZE", HEADER_LEN),
+        ("CHUNK_SIZE", CHUNK_LEN),
+        ("CHUNK_OVERHEAD", CHUNK_OVERHEAD),
+        ("CLEARTEXT_MAX", MAX_CLEARTEXT_LEN),
+        ("PATH_SIZE", PATH_LEN),
+        ("NAME_MAX", MAX_NAME_LEN),
+        ("STORED_NAME_MAX", MAX_STORED_LEN),
+        ("FULL_NAME_MAX", MAX_FULL_LEN),
+    ] {
+        assert_eq!(c[name], size, "{name}");
+    }
+}
+
+fn c_sizes() -> BTreeMap<String, usize> {
+    let code = without_comments(HEADER);
+    let defines = code.split("#define SKRAPNEFJA_").skip(1);
+    let parsed = defines.filter_map(|text| {
+        let (name, value) = text.lines().next()?.split_once(' ')?;
+        Some((name.to_string(), value.trim().parse().ok()?))
+    });
+    parsed.collect()
 }
 
 fn c_functions() -> Functions {

@@ -17,7 +17,7 @@ use Rattle.sha1.specs.Message.{padding, padded, initial, hashFrom, sha1}
 use Rattle.encoding.specs.Base32 as base32
 use Rattle.encoding.specs.Base64url as base64url
 use Rattle.name_spec.specs.Names.{sealedId, idHash, path, sealedName, fullName, hashName}
-use Rattle.known_answers.specs.Names.{StockPath, DistinctPath, DistinctFullName, DistinctHashName, DistinctRootName}
+use Rattle.known_answers.specs.Names.{StockPath, DistinctPath, DistinctFullName, DistinctHashName, LongestHashName, DistinctRootName}
 
 pub stock-path : StockPath
 unfolding f.xtimes f.mulBits f.mul sbox words wordBytes subWord rotWord powerOfX rcon temp expansion keyExpansion xors subBytes shiftRows mixColumns addRoundKey afterRounds cipher aes intFrom int be keystream ctr dbl pad subkey1 subkey2 chain lastBlock cmacFrom cmac xorend s2vLast s2vFrom s2v inc counterOf crypt seal rotl ch parity maj stepFunction stepConstant extended schedule step steps added compress padding padded initial hashFrom sha1 base32.quintets base32.alphabet base32.letter base32.encode sealedId idHash path
@@ -34,6 +34,10 @@ distinct-full-name = refl
 pub distinct-hash-name : DistinctHashName
 unfolding words wordBytes intFrom int be rotl ch parity maj stepFunction stepConstant extended schedule step steps added compress padding padded initial hashFrom sha1 base64url.sextets base64url.alphabet base64url.letter base64url.pad base64url.encode hashName
 distinct-hash-name = refl
+
+pub longest-hash-name : LongestHashName
+unfolding words wordBytes intFrom int be rotl ch parity maj stepFunction stepConstant extended schedule step steps added compress padding padded initial hashFrom sha1 base64url.sextets base64url.alphabet base64url.letter base64url.pad base64url.encode hashName
+longest-hash-name = refl
 
 pub distinct-root-name : DistinctRootName
 unfolding f.xtimes f.mulBits f.mul sbox words wordBytes subWord rotWord powerOfX rcon temp expansion keyExpansion xors subBytes shiftRows mixColumns addRoundKey afterRounds cipher aes intFrom int be keystream ctr dbl pad subkey1 subkey2 chain lastBlock cmacFrom cmac xorend s2vLast s2vFrom s2v inc counterOf crypt seal base64url.sextets base64url.alphabet base64url.letter base64url.pad base64url.encode sealedName fullName

@@ -1,6 +1,6 @@
 -- The rows of each call match its rules, and so the calls go by these, exactly.
 -- Assumes nothing.
-use Prim.Native.Nat.{ℕ, zero, suc, _≤_, _<_}
+use Prim.Native.Nat.{ℕ, suc, _≤_, _<_}
 use mathlib.Core.Path.{_≡_, refl, sym, ap, _∙_}
 use mathlib.Core.Bool.{Bool, true, false, not, _&&_, _||_, cond}
 use mathlib.Core.Logic.{_↔_}
@@ -10,12 +10,11 @@ use lib.ListN.{length}
 use lib.Dec.{ltb, leb, lit≤}
 use borrow.Author.Tests.{leb-true, leb-false, ltb-true, lt-ltb}
 use Rattle.octets.specs.Bytes.{Below, filled, same}
-use Rattle.octets.specs.Rows.{done, End}
 use Rattle.octets.proofs.Bytes.{below-nil, below-cons}
 use Rattle.octets.proofs.Tests.{self, leb-exactly, leb-fails, ltb-fails, both-exactly, not-fails, or-fails, same-exactly}
-use Rattle.octets.proofs.Rows.{Matches, ends-by, succeeds-exactly}
+use Rattle.octets.proofs.Rows.{Matches, ends-by}
 use Rattle.siv_gcm.proofs.KeySizes.{keys-exactly}
-use Rattle.name_spec.specs.Names.{ascii, idRight, nameRight, path, fullName, fullLength, hashName, short, storedName, textRight, nameLength, nameOf, nameGood}
+use Rattle.name_spec.specs.Names.{nameLimit, ascii, idRight, nameRight, path, fullName, fullLength, hashName, short, storedName, textRight, nameLength, nameGood}
 use Rattle.name_spec.specs.Calls.{pathLength, storedLength, writtenLengths, lacksRoom, dirPathRows, dirPath, writeNameRows, writeName, openNameRows, openName, openLongNameRows, openLongName}
 use Rattle.name_spec.specs.Rules.{IdFits, NameSize, TextForm, NameRoom, dirPathRules, writeNameRules, openNameRules, openLongNameRules}
 use Rattle.name_spec.specs.Statements.{NameRowsExactly, NamesAscend}
@@ -40,7 +39,7 @@ id-exactly id = both-exactly (leb-exactly (length id) 36) (ascii-exactly id)
 
 pub name-exactly : (name : List ℕ) → (nameRight name ≡ true) ↔ NameSize name
 unfolding nameRight
-name-exactly name = both-exactly (leb-exactly 1 (length name)) (leb-exactly (length name) 255)
+name-exactly name = both-exactly (leb-exactly 1 (length name)) (leb-exactly (length name) nameLimit)
 
 pub text-exactly : (t : List ℕ) → (textRight t ≡ true) ↔ TextForm t
 text-exactly t = (form t, λ f. ap textRight (sym (f .4)) ∙ text-of (f .0) (f .1) (f .2) (f .3))

@@ -21,7 +21,7 @@ use Rattle.sha1.proofs.Laws.{twenty-bytes}
 use Rattle.encoding.specs.Base64url as base64url
 use Rattle.encoding.proofs.Laws.{encoded-decodes, decoded-was-encoded, encoded-length}
 use Rattle.encoding.proofs.Quintets.{base32-length}
-use Rattle.name_spec.specs.Names.{idLimit, nameLimit, ivSize, ascii, idRight, nameRight, fullEnd, hashEnd, sealedId, idHash, path, sealedName, fullName, fullLength, hashName, stem, sealedOf, nameLength, textRight, nameOf, nameGood}
+use Rattle.name_spec.specs.Names.{nameLimit, ivSize, fullEnd, hashEnd, sealedId, idHash, path, sealedName, fullName, fullLength, hashName, stem, sealedOf, nameLength, textRight, nameOf, nameGood}
 use Rattle.name_spec.specs.Calls.{pathLength, hashLength}
 use Rattle.name_spec.specs.Rules.{TextForm}
 use Rattle.name_spec.specs.Statements.{TextLengths, NameFits}
@@ -108,7 +108,7 @@ module _ (s : List ℕ) (bytes : Bytes s) where
   unfolding sealedOf
   sealed-of-text = ap (base64url.decoded true) (stem-of (base64url.encode true s)) ∙ encoded-decodes true s bytes .1
 
-  pub text-of : 17 ≤ length s → length s ≤ 271 → textRight (base64url.encode true s ++ fullEnd) ≡ true
+  pub text-of : 1 + ivSize ≤ length s → length s ≤ nameLimit + ivSize → textRight (base64url.encode true s ++ fullEnd) ≡ true
   text-of low high =
       let l = ap length sealed-of-text in
       text-right (base64url.encode true s ++ fullEnd)

@@ -21,7 +21,7 @@ idLimit = 36
 
 -- The most bytes of a name.
 abbrev pub nameLimit : ℕ
-nameLimit = 255
+nameLimit = 1020
 
 -- The most characters of a full name that is stored as it is.
 abbrev pub threshold : ℕ
@@ -42,7 +42,7 @@ ascii (a ∷ s) = ltb a 128 && ascii s
 unfoldable pub idRight : List ℕ → Bool
 idRight id = leb (length id) idLimit && ascii id
 
--- A name has 1 to 255 bytes.
+-- A name has 1 to 1,020 bytes.
 unfoldable pub nameRight : List ℕ → Bool
 nameRight name = leb 1 (length name) && leb (length name) nameLimit
 
@@ -118,8 +118,8 @@ sealedOf t = base64url.decoded true (stem t)
 unfoldable pub nameLength : List ℕ → ℕ
 nameLength t = length (sealedOf t) - ivSize
 
--- The text form: the text ends in ".c9r"; before it stands base64url with padding, which `accepted` defines (alphabet, padding, zero pad bits); and that stands for 17 to 271
--- bytes, the lengths that a sealed name can have.
+-- The text form: the text ends in ".c9r"; before it stands base64url with padding, which `accepted` defines (alphabet, padding, zero pad
+-- bits); and that stands for 17 to 1,036 bytes, the lengths that a sealed name can have.
 unfoldable pub textRight : List ℕ → Bool
 textRight t =
     same (drop (length t - length fullEnd) t) fullEnd

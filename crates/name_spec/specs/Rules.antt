@@ -16,13 +16,13 @@ use Rattle.name_spec.specs.Names.{fullEnd, fullLength, hashName, nameLen
 abbrev pub IdFits : List ℕ → Type 0
 IdFits id = (length id ≤ 36) × Below 128 id
 
--- The size of a name: 1 to 255 bytes.
+-- The size of a name: 1 to 1,020 bytes.
 abbrev pub NameSize : List ℕ → Type 0
-NameSize name = (1 ≤ length name) × (length name ≤ 255)
+NameSize name = (1 ≤ length name) × (length name ≤ 1020)
 
--- The text form of a full name: base64url with padding of 17 to 271 bytes, and its end.
+-- The text form of a full name: base64url with padding of 17 to 1,036 bytes, and its end.
 abbrev pub TextForm : List ℕ → Type 0
-TextForm t = (s : List ℕ) × Bytes s × (17 ≤ length s) × (length s ≤ 271) × (base64url.encode true s ++ fullEnd ≡ t)
+TextForm t = (s : List ℕ) × Bytes s × (17 ≤ length s) × (length s ≤ 1036) × (base64url.encode true s ++ fullEnd ≡ t)
 
 -- Room for what is written of a full name of n characters: up to 220, the first buffer holds it; beyond, the first holds the 32 characters of its
 -- hash name, and the second the full name.

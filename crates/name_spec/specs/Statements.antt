@@ -16,7 +16,7 @@ use Rattle.name_spec.specs.Names.{fullEnd, path, fullName, fullLength, h
 use Rattle.name_spec.specs.Calls.{pathLength, storedLength, writtenLengths, NameEnd, nameEnded, dirPath, writeName, openName, openLongName}
 use Rattle.name_spec.specs.Rules.{IdFits, NameSize, TextForm, NameRoom, dirPathRules, writeNameRules, openNameRules, openLongNameRules}
 
--- A name of 1 to 255 bytes.
+-- A name of 1 to 1,020 bytes.
 pub record NameFits (name : List ℕ) : Type 0 where
   pub size : NameSize name
   pub bytes : Bytes name
@@ -42,6 +42,14 @@ TextLengths =
     × (length (hashName full) ≡ 32)
     × (length (fullName enc mac id name) ≡ fullLength (length name)))
     × ((s : List ℕ) → Bytes s → nameLength (base64url.encode true s ++ fullEnd) ≡ length s - 16)
+
+-- The longest full name has 1,388 characters: no name has a longer one, 1,020 bytes are a name and have as long a one, and no text in the text form is
+-- longer. Any keys and directory ID.
+abbrev pub LongestNames : Type 0
+LongestNames =
+    ((enc mac id name : List ℕ) → NameSize name → length (fullName enc mac id name) ≤ 1388)
+    × ((enc mac id name : List ℕ) → length name ≡ 1020 → NameSize name × (length (fullName enc mac id name) ≡ 1388))
+    × ((t : List ℕ) → TextForm t → length t ≤ 1388)
 
 module _ (enc mac id : List ℕ) where
   -- The calls go by their rules, exactly; a success leaves what is written or opened at the front of the buffer, and the full name of a
@@ -127,6 +135,14 @@ module _ (enc mac id : List ℕ) where
       → ((openLongName enc mac id (hashName f) f out ≡ ended (refused 12) out) ↔ (matches ≡ false))
       × ((openLongName enc mac id (hashName f) f out ≡ opened) ↔ (matches ≡ true)))
 
+  -- Buffers of at least 220 and 1,388 bytes have room for whatever is written of a name, and one of at least 1,020 bytes for whatever is
+  -- opened: row 7 is not given. Any keys, directory ID, name and texts.
+  abbrev pub RoomForAny : Type 0
+  RoomForAny =
+      ((name stored full : List ℕ) → 220 ≤ length stored → 1388 ≤ length full → writeName enc mac id name stored full .outcome ≡ refused 7 → ⊥)
+      × ((t out : List ℕ) → 1020 ≤ length out → openName enc mac id t out .outcome ≡ refused 7 → ⊥)
+      × ((s t out : List ℕ) → 1020 ≤ length out → openLongName enc mac id s t out .outcome ≡ refused 7 → ⊥)
+
 -- A full name is that of one name only, whatever the directory.
 abbrev pub OneName : Type 0
 OneName =
@@ -141,6 +157,8 @@ abbrev pub NameDemandTwo : Type 0
 NameDemandTwo =
     ((enc mac id : List ℕ)
     → PathWritesExactly enc mac id × NameWritesExactly enc mac id
-    × NameWrittenOpens enc mac id × NameOpensExactly enc mac id × LongNameOpensExactly enc mac id × MovedNameExactly enc mac id)
+    × NameWrittenOpens enc mac id × NameOpensExactly enc mac id × LongNameOpensExactly enc mac id × MovedNameExactly enc mac id
+    × RoomForAny enc mac id)
     × OneName
     × TextLengths
+    × LongestNames

@@ -1,6 +1,6 @@
 -- The length of the name in a text, with 0 for a text whose form is broken.
 -- Assumes nothing.
-use Prim.Native.Nat.{ℕ, _-_, _≤_, _<_}
+use Prim.Native.Nat.{ℕ, _+_, _-_, _≤_, _<_}
 use mathlib.Core.Path.{_≡_, refl, sym, ap, _∙_}
 use mathlib.Core.Bool.{Bool, true, false, cond}
 use mathlib.Core.List.{List}
@@ -10,7 +10,7 @@ use borrow.Author.Tests.{lt-leb, le-leb}
 use Rattle.octets.specs.Bytes.{same}
 use Rattle.octets.proofs.Equality.{same-not}
 use Rattle.encoding.specs.Base64url.{accepted, decoded}
-use Rattle.name_spec.specs.Names.{fullEnd, stem, sealedOf, nameLength, textRight}
+use Rattle.name_spec.specs.Names.{nameLimit, ivSize, fullEnd, stem, sealedOf, nameLength, textRight}
 use Rattle.name_spec.proofs.Texts.{text-facts}
 
 module _ (t : List ℕ) where
@@ -41,13 +41,13 @@ module _ (t : List ℕ) where
       unfolding textRight sealedOf
       too-few h = broken (rw (ends, ok .0, ok .1, lt-leb 17 m h))
 
-      pub too-many : 17 ≤ m → 271 < m → Measures 0
+      pub too-many : 17 ≤ m → nameLimit + ivSize < m → Measures 0
       unfolding textRight sealedOf
-      too-many h k = broken (rw (ends, ok .0, ok .1, le-leb 17 m h, lt-leb m 271 k))
+      too-many h k = broken (rw (ends, ok .0, ok .1, le-leb 17 m h, lt-leb m (nameLimit + ivSize) k))
 
-      pub in-form : 17 ≤ m → m ≤ 271 → Measures (m - 16)
+      pub in-form : 17 ≤ m → m ≤ nameLimit + ivSize → Measures (m - 16)
       unfolding textRight nameLength sealedOf
-      in-form h k = rw (ends, ok .0, ok .1, le-leb 17 m h, le-leb m 271 k)
+      in-form h k = rw (ends, ok .0, ok .1, le-leb 17 m h, le-leb m (nameLimit + ivSize) k)
 
   -- What the length tells.
   pub form-broken : (r : ℕ) → Measures r → r ≡ 0 → textRight t ≡ false

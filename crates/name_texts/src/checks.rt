@@ -10,7 +10,7 @@ ghost use Rattle.name_spec.specs.Names as spec;
 pub const ID_LIMIT: usize = 36;
 
 // The most bytes of a name.
-pub const NAME_LIMIT: usize = 255;
+pub const NAME_LIMIT: usize = 1020;
 
 // The most characters of a full name that is stored as it is.
 const THRESHOLD: usize = 220;

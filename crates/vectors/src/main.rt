@@ -204,18 +204,44 @@ fn name(enc: &[u8], mac: &[u8], id: &[u8]) {
     line(&name);
 }
 
+// Fills the slice with the alphabet, again and again.
+fn alphabet(out: &mut [u8]) {
+    let mut i = 0;
+    while i < out.len() {
+        out[i] = b'a' + (i % 26) as u8;
+        i += 1;
+    }
+}
+
 // A name that is shortened: its hash name, its full name, and what the two open to.
-fn long_name(enc: &[u8], mac: &[u8], id: &[u8]) {
-    let name =
-        b"abcdefghijklmnopqrstuvwxyzabcdefghijklmnopqrstuvwxyzabcdefghijklmnopqrstuvwxyzabcdefghijklmnopqrstuvwxyzabcdefghijklmnopqrstuvwxyzabcdefghijklmnopqrstuvwxyz";
+fn long_name(enc: &[u8], mac: &[u8], id: &[u8], name: &[u8], full: &mut [u8], opened: &mut [u8]) {
     let mut stored = [0u8; 32];
-    let mut full = [0u8; 236];
-    write_name(enc, mac, id, name, &mut stored, &mut full);
+    write_name(enc, mac, id, name, &mut stored, full);
     line(&stored);
-    line(&full);
+    line(full);
+    open_long_name(enc, mac, id, &stored, full, opened);
+    line(opened);
+}
+
+// A name of 156 bytes, and one of 1,020, the longest.
+fn long_names(enc: &[u8], mac: &[u8], id: &[u8]) {
+    let mut name = [0u8; 156];
+    alphabet(&mut name);
+    let mut full = [0u8; 236];
     let mut opened = [0u8; 156];
-    open_long_name(enc, mac, id, &stored, &full, &mut opened);
-    line(&opened);
+    long_name(enc, mac, id, &name, &mut full, &mut opened);
+    let mut longest = [0u8; 1020];
+    alphabet(&mut longest);
+    let mut longest_full = [0u8; 1388];
+    let mut longest_opened = [0u8; 1020];
+    long_name(
+        enc,
+        mac,
+        id,
+        &longest,
+        &mut longest_full,
+        &mut longest_opened,
+    );
 }
 
 // The values under inputs that all differ.
@@ -232,7 +258,7 @@ fn distinct() {
     chunk(content_key, header_nonce);
     path(enc, mac, id);
     name(enc, mac, id);
-    long_name(enc, mac, id);
+    long_names(enc, mac, id);
 }
 
 fn main() {

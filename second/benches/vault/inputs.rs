@@ -2,6 +2,7 @@
 
 use crate::random::Random;
 use second::vault::{self, CHUNK_LEN, MAX_CLEARTEXT_LEN};
+use std::ops::RangeInclusive;
 
 pub const ENC: [u8; 32] = [0x55; 32];
 pub const MAC: [u8; 32] = [0x77; 32];
@@ -41,12 +42,12 @@ pub fn places(number: usize, len: usize) -> Vec<u64> {
     (0..number).map(|_| random.below(end + 1) as u64).collect()
 }
 
-/// Names of up to this many bytes, and of one at least.
-pub fn names(number: usize, longest: usize) -> Vec<Vec<u8>> {
+/// Names of any of these lengths.
+pub fn names(number: usize, lengths: RangeInclusive<usize>) -> Vec<Vec<u8>> {
     let mut random = Random::new(3);
     (0..number)
         .map(|_| {
-            let len = 1 + random.below(longest);
+            let len = lengths.start() + random.below(lengths.end() - lengths.start() + 1);
             random.bytes(len)
         })
         .collect()

@@ -2,6 +2,7 @@
 //! much stack the library takes.
 
 mod inputs;
+mod long_names;
 mod parts;
 #[expect(dead_code, reason = "only GCM is timed by itself")]
 #[path = "../../tests/common/primitives.rs"]
@@ -26,6 +27,7 @@ fn main() {
         "", "library", "second", "ratio"
     );
     vault::run();
+    long_names::run();
     println!();
     parts::run();
     println!();

@@ -15,7 +15,7 @@ pub fn run() {
     write_file(&cleartext, file.len());
     open_file(&file, cleartext.bytes.len());
     read_ranges(&file);
-    let names = names(NAMES, 146);
+    let names = names(NAMES, 1..=146);
     write_names(&names);
     open_names(&names);
 }

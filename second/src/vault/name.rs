@@ -99,11 +99,11 @@ mod tests {
     fn written_names_open() {
         for len in 1..=MAX_NAME_LEN {
             let name: Vec<_> = (0..len).map(|i| i as u8).collect();
-            let (mut stored, mut full, mut out) = ([0; 220], [0; 368], [0; 255]);
+            let (mut stored, mut full, mut out) = ([0; 220], [0; 1388], [0; MAX_NAME_LEN]);
             let written = write_name(&ENC, &MAC, b"id", &name, &mut stored, &mut full);
             let opened = match written {
                 Ok(WrittenName::Plain(length)) => {
-                    assert_eq!((length, full), (full_len(len), [0; 368]));
+                    assert_eq!((length, full), (full_len(len), [0; 1388]));
                     assert!(len <= 146);
                     open_name(&ENC, &MAC, b"id", &stored[..length], &mut out)
                 }

@@ -8,7 +8,7 @@ pub enum Refusal {
     KeyOrNonceSize,
     /// The directory ID has more than 36 bytes, or one of 128 or more.
     DirectoryId,
-    /// The name to write has no bytes or more than 255.
+    /// The name to write has no bytes or more than 1,020.
     NameSize,
     /// No file, header or chunk has this length.
     Length,

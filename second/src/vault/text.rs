@@ -10,7 +10,7 @@ pub const MAX_PLAIN_LEN: usize = 220;
 pub const HASH_NAME_LEN: usize = 32;
 
 /// The longest name, in bytes.
-pub const MAX_NAME_LEN: usize = 255;
+pub const MAX_NAME_LEN: usize = 1020;
 
 const FULL_SUFFIX: &str = ".c9r";
 const HASH_SUFFIX: &str = ".c9s";
@@ -25,8 +25,8 @@ pub fn full_name(sealed: &[u8]) -> String {
     base64url::encode(sealed, true) + FULL_SUFFIX
 }
 
-/// Gives the sealed name of what [`full_name`] made of a name of 1 to 255
-/// bytes, and `None` for anything else.
+/// Gives the sealed name of what [`full_name`] made of a name of 1 to
+/// [`MAX_NAME_LEN`] bytes, and `None` for anything else.
 pub fn sealed_name(full: &[u8]) -> Option<Vec<u8>> {
     let text = full.strip_suffix(FULL_SUFFIX.as_bytes())?;
     let sealed = base64url::decode(text, true)?;
@@ -45,7 +45,7 @@ mod tests {
 
     #[test]
     fn lengths() {
-        for (name, full) in [(1, 28), (146, 220), (147, 224), (255, 368)] {
+        for (name, full) in [(1, 28), (146, 220), (147, 224), (1020, 1388)] {
             assert_eq!(full_len(name), full);
         }
         for name in 1..=MAX_NAME_LEN {
@@ -59,7 +59,7 @@ mod tests {
 
     #[test]
     fn too_short_or_too_long() {
-        for sealed in [0, 1, 15, 16, 272, 273, 1000] {
+        for sealed in [0, 1, 15, 16, 1037, 1038, 1039, 2000] {
             let full = full_name(&vec![0; sealed]);
             assert_eq!(sealed_name(full.as_bytes()), None);
         }

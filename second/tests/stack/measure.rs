@@ -4,6 +4,7 @@
 //! that no longer has this byte after the call is what it used, together with
 //! the little that getting there takes. This is for x86-64, as the library is.
 
+use skrapnefja::{MAX_FULL_LEN, MAX_NAME_LEN, MAX_STORED_LEN};
 use std::arch::asm;
 use std::ffi::c_void;
 
@@ -53,9 +54,9 @@ fn calls() -> Vec<(&'static str, usize)> {
     let mut out = vec![0; cleartext.len()];
     let (mut header, mut key) = ([0; 68], [0; 32]);
     let mut chunk = vec![0; 32_796];
-    let (mut stored, mut full, mut plain) = ([0; 32], [0; 368], [0; 220]);
+    let (mut stored, mut full, mut plain) = ([0; 32], [0; MAX_FULL_LEN], [0; MAX_STORED_LEN]);
     let mut path = [0; 36];
-    let name = [b'n'; 255];
+    let name = [b'n'; MAX_NAME_LEN];
     let short = &name[..146];
     vec![
         (
@@ -112,7 +113,7 @@ fn calls() -> Vec<(&'static str, usize)> {
         ),
         (
             "write_name, plain",
-            done(220, || {
+            done(MAX_STORED_LEN, || {
                 let written = skrapnefja::write_name(&ENC, &MAC, ID, short, &mut plain, &mut []);
                 written.map(|written| match written {
                     skrapnefja::WrittenName::Plain(stored) => stored,
@@ -122,7 +123,7 @@ fn calls() -> Vec<(&'static str, usize)> {
         ),
         (
             "write_name, shortened",
-            done(368, || {
+            done(MAX_FULL_LEN, || {
                 let written = skrapnefja::write_name(&ENC, &MAC, ID, &name, &mut stored, &mut full);
                 written.map(|written| match written {
                     skrapnefja::WrittenName::Plain(_) => 0,
@@ -138,7 +139,7 @@ fn calls() -> Vec<(&'static str, usize)> {
         ),
         (
             "open_long_name",
-            done(255, || {
+            done(MAX_NAME_LEN, || {
                 skrapnefja::open_long_name(&ENC, &MAC, ID, &stored, &full, &mut out)
             }),
         ),

@@ -34,7 +34,7 @@ fn values(compare: &mut Compare) {
     }
     let count = |kind| kinds.iter().filter(|&&other| other == kind).count();
     let counts = ["header", "reserved", "chunk", "name", "path"].map(count);
-    assert_eq!(counts, [1, 1, 2, 6, 2]);
+    assert_eq!(counts, [1, 1, 2, 10, 2]);
 }
 
 /// The reserved bytes are not those that our writers write; they are returned,

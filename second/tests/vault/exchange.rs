@@ -2,7 +2,8 @@
 
 use crate::case::{Call, Case, End};
 use crate::compare::Compare;
-use crate::{library, make, predict, Part};
+use crate::make::{self, LONGEST_NAME, LONGEST_PLAIN};
+use crate::{library, predict, Part};
 
 pub const PARTS: &[Part] = &[
     ("exchange: files", files),
@@ -84,11 +85,11 @@ fn headers_and_chunks(compare: &mut Compare) {
 }
 
 fn names(compare: &mut Compare) {
-    for len in 1..=255 {
+    for len in 1..=LONGEST_NAME {
         for (writer, reader) in WAYS {
             let write = make::write_name(&mut compare.random, len);
             let mut texts = written(compare, writer, &write);
-            let call = if len > 146 {
+            let call = if len > LONGEST_PLAIN {
                 Call::OpenLongName
             } else {
                 Call::OpenName

@@ -10,10 +10,13 @@ use second::vault::{self, CHUNK_LEN};
 
 pub use content::*;
 pub use names::*;
-use sizes::{chunk_len, file_len, range};
+use sizes::{chunk_len, file_len, name_len, range};
 
 pub const MAX_CHUNK: usize = CHUNK_LEN + 28;
 pub const HEADER: usize = 68;
+pub const LONGEST_PLAIN: usize = 146;
+pub const LONGEST_NAME: usize = 1020;
+pub const LONGEST_FULL_NAME: usize = 1388;
 
 pub fn case(call: Call, random: &mut Random) -> Case {
     match call {
@@ -41,15 +44,15 @@ pub fn case(call: Call, random: &mut Random) -> Case {
             read_range(random, len, from, count)
         }
         Call::WriteName => {
-            let len = 1 + random.below(255);
+            let len = name_len(random, 1);
             write_name(random, len)
         }
         Call::OpenName => {
-            let len = 1 + random.below(146);
+            let len = 1 + random.below(LONGEST_PLAIN);
             open_name(random, len)
         }
         Call::OpenLongName => {
-            let len = 147 + random.below(109);
+            let len = name_len(random, LONGEST_PLAIN + 1);
             open_long_name(random, len)
         }
         Call::DirPath => dir_path(random),

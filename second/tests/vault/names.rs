@@ -3,7 +3,8 @@
 use crate::case::{Case, End};
 use crate::compare::Compare;
 use crate::fault::resize;
-use crate::{make, Part};
+use crate::make::{self, LONGEST_NAME};
+use crate::Part;
 
 pub const PARTS: &[Part] = &[
     ("names: every length", lengths),
@@ -15,19 +16,19 @@ pub const PARTS: &[Part] = &[
 ];
 
 fn lengths(compare: &mut Compare) {
-    for len in 0..300 {
+    for len in 0..LONGEST_NAME + 100 {
         let mut write = make::write_name(&mut compare.random, len);
-        write.buffers = [230, 400].map(|len| compare.random.bytes(len)).to_vec();
+        write.buffers = [230, 1600].map(|len| compare.random.bytes(len)).to_vec();
         let End {
             row, length, other, ..
         } = compare.end(&write);
         let full = ((16 + len).div_ceil(3) * 4 + 4) as u64;
         match len {
             1..=146 => assert_eq!((row, length, other), (0, full, 0)),
-            147..=255 => assert_eq!((row, length, other), (0, 32, full)),
+            147..=1020 => assert_eq!((row, length, other), (0, 32, full)),
             _ => assert_eq!(row, 3),
         }
-        if (1..=255).contains(&len) {
+        if (1..=1020).contains(&len) {
             let long = make::open_long_name(&mut compare.random, len);
             assert_eq!(compare.row(&long), if len > 146 { 0 } else { 11 });
         }
@@ -71,7 +72,7 @@ fn directory_ids(compare: &mut Compare) {
 }
 
 fn buffers(compare: &mut Compare) {
-    for name in [1, 50, 146, 147, 255] {
+    for name in [1, 50, 146, 147, 255, 256, 1019, 1020] {
         let write = make::write_name(&mut compare.random, name);
         let full = (16 + name).div_ceil(3) * 4 + 4;
         for stored_len in (0..50).chain(full - 3..full + 3) {
@@ -90,10 +91,11 @@ fn buffers(compare: &mut Compare) {
     let opens = [
         (make::open_name(&mut compare.random, 40), 40),
         (make::open_long_name(&mut compare.random, 200), 200),
+        (make::open_long_name(&mut compare.random, 1020), 1020),
         (make::dir_path(&mut compare.random), 36),
     ];
     for (case, need) in opens {
-        for len in 0..230 {
+        for len in (0..230).chain(1000..1040) {
             let mut sized = case.clone();
             resize(&mut sized.buffers[0], len, &mut compare.random);
             assert_eq!(compare.row(&sized), if len < need { 7 } else { 0 });
@@ -117,7 +119,7 @@ fn keys(compare: &mut Compare) {
 /// names are not those of another.
 fn moved(compare: &mut Compare) {
     let ids: [&[u8]; 6] = [b"", b"\0", b"a", b"aa", &[b'a'; 35], &[b'a'; 36]];
-    for name in [1, 15, 16, 17, 146, 147, 255] {
+    for name in [1, 15, 16, 17, 146, 147, 255, 256, 1019, 1020] {
         for here in ids {
             let mut write = make::write_name(&mut compare.random, name);
             write.inputs[2] = here.to_vec();

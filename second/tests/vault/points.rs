@@ -3,19 +3,24 @@
 use crate::case::{Call, Case, End};
 use crate::common::random::Random;
 use crate::compare::Compare;
+use crate::fault::full_name;
 use crate::make::{self, number};
 use crate::Part;
 
 pub const PARTS: &[Part] = &[
-    ("point: names of 1 and 255 bytes", shortest_and_longest_name),
     (
-        "point: names of 0 and 256 bytes",
+        "point: names of 1 and 1,020 bytes",
+        shortest_and_longest_name,
+    ),
+    (
+        "point: names of 0 and 1,021 bytes",
         no_name_and_too_long_a_name,
     ),
     ("point: directory IDs of 36 and 37 bytes", id_lengths),
     ("point: directory IDs with byte 127 or 128", id_bytes),
     ("point: file lengths that are refused", refused_file_lengths),
     ("point: text that decodes to 16 bytes", sixteen_bytes),
+    ("point: text of 1,036 or 1,037 bytes", longest_text),
     ("point: from at its largest, count 1", largest_from),
     ("point: count at its largest, from 1", largest_count),
     ("point: from at the end, count 0", empty_range_at_end),
@@ -25,20 +30,23 @@ pub const PARTS: &[Part] = &[
 /// The lengths of the cleartexts whose ranges are read.
 const CLEARTEXTS: [usize; 4] = [0, 1, 32_768, 40_000];
 
-/// Full names of 28 and 368 characters; the second is stored as its hash name.
+/// Full names of 28 and 1,388 characters; the second is stored as its hash
+/// name. Both open again.
 fn shortest_and_longest_name(compare: &mut Compare) {
-    for (len, lengths) in [(1, (28, 0)), (255, (32, 368))] {
+    for (len, lengths) in [(1, (28, 0)), (1020, (32, 1388))] {
         let case = make::write_name(&mut compare.random, len);
         let End {
             row, length, other, ..
         } = compare.end(&case);
         assert_eq!((row, (length, other)), (0, lengths));
+        let open = make::open_written(&mut compare.random, &case);
+        assert_eq!(compare.row(&open), 0);
     }
 }
 
 /// Row 3.
 fn no_name_and_too_long_a_name(compare: &mut Compare) {
-    for len in [0, 256] {
+    for len in [0, 1021] {
         let case = make::write_name(&mut compare.random, len);
         assert_eq!(compare.row(&case), 3);
     }
@@ -115,6 +123,18 @@ fn sixteen_bytes(compare: &mut Compare) {
     let mut long = make::open_long_name(&mut compare.random, 200);
     long.inputs[4] = text.to_vec();
     assert_eq!(compare.row(&long), 5);
+}
+
+/// Both have 1,388 characters: the first is in the text form, and its IV does
+/// not match; the second is row 5.
+fn longest_text(compare: &mut Compare) {
+    for (bytes, row) in [(1036, 12), (1037, 5)] {
+        let mut long = make::open_long_name(&mut compare.random, 1020);
+        long.inputs[4] = full_name(&compare.random.bytes(bytes));
+        long.inputs[3] = make::hash_name(&long.inputs[4]);
+        assert_eq!(long.inputs[4].len(), 1388);
+        assert_eq!(compare.row(&long), row);
+    }
 }
 
 /// Row 6.

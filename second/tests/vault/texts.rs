@@ -3,13 +3,15 @@
 use crate::case::{Call, Case};
 use crate::compare::Compare;
 use crate::fault::full_name;
-use crate::{make, Part};
+use crate::make::{self, LONGEST_FULL_NAME, LONGEST_NAME};
+use crate::Part;
 
 pub const PARTS: &[Part] = &[
     ("texts: every character at every place", every_character),
     ("texts: some characters of long names", some_characters),
     ("texts: cut, shorter and longer", lengths),
     ("texts: every decoded length", decoded_lengths),
+    ("texts: around the longest full name", longest_texts),
     ("texts: padding and spare bits", last_group),
     ("texts: every character of the hash name", hash_names),
 ];
@@ -28,18 +30,21 @@ fn text(case: &Case) -> Vec<u8> {
     case.inputs.last().expect("a text").clone()
 }
 
-/// Three names, so that the last group has each number of characters.
+/// Three names, so that the last group has each number of characters. With
+/// another character in the place of a pad the name is longer, and may have no
+/// room.
 fn every_character(compare: &mut Compare) {
     for len in [1, 2, 3] {
         let case = make::open_name(&mut compare.random, len);
         let right = text(&case);
         for place in 0..right.len() {
+            let pad = right[place] == b'=';
             for character in 0..=255 {
                 let mut text = right.clone();
                 text[place] = character;
                 let same = text == right;
                 let row = compare.row(&with_text(&case, text));
-                assert!(matches!((same, row), (true, 0) | (false, 5 | 12)));
+                assert!(matches!((same, row), (true, 0) | (false, 5 | 12)) || row == 7 && pad);
             }
         }
     }
@@ -47,16 +52,18 @@ fn every_character(compare: &mut Compare) {
 
 fn some_characters(compare: &mut Compare) {
     let plain = make::open_name(&mut compare.random, 146);
-    let long = [147, 148, 149, 255].map(|len| make::open_long_name(&mut compare.random, len));
+    let long = [147, 148, 149, 255, 1018, 1019, 1020]
+        .map(|len| make::open_long_name(&mut compare.random, len));
     for case in [plain].into_iter().chain(long) {
         let right = text(&case);
         for place in 0..right.len() {
+            let pad = right[place] == b'=';
             for character in *b"AB_-=.+\xe1" {
                 let mut text = right.clone();
                 text[place] = character;
                 let same = text == right;
                 let row = compare.row(&with_text(&case, text));
-                assert!(matches!((same, row), (true, 0) | (false, 5 | 12)));
+                assert!(matches!((same, row), (true, 0) | (false, 5 | 12)) || row == 7 && pad);
             }
         }
     }
@@ -64,7 +71,8 @@ fn some_characters(compare: &mut Compare) {
 
 fn lengths(compare: &mut Compare) {
     let plain = [1, 2, 3, 144].map(|len| make::open_name(&mut compare.random, len));
-    let long = [147, 148, 255].map(|len| make::open_long_name(&mut compare.random, len));
+    let long =
+        [147, 148, 255, 1018, 1019, 1020].map(|len| make::open_long_name(&mut compare.random, len));
     for case in plain.into_iter().chain(long) {
         let right = text(&case);
         for place in 0..=right.len() {
@@ -84,21 +92,38 @@ fn lengths(compare: &mut Compare) {
     }
 }
 
-/// Only 17 to 271 bytes are a sealed name.
+/// Only 17 to 1,036 bytes are a sealed name.
 fn decoded_lengths(compare: &mut Compare) {
     let mut plain = make::open_name(&mut compare.random, 1);
-    let mut long = make::open_long_name(&mut compare.random, 255);
-    plain.buffers[0] = compare.random.bytes(400);
-    long.buffers[0] = compare.random.bytes(400);
-    for len in 0..400 {
+    let mut long = make::open_long_name(&mut compare.random, LONGEST_NAME);
+    plain.buffers[0] = compare.random.bytes(1200);
+    long.buffers[0] = compare.random.bytes(1200);
+    for len in 0..1200 {
         let text = full_name(&compare.random.bytes(len));
         let row = compare.row(&with_text(&plain, text.clone()));
         assert_eq!(row, if (17..=162).contains(&len) { 12 } else { 5 });
         let row = compare.row(&with_text(&long, text));
         match len {
             17..=162 => assert_eq!(row, 11),
-            163..=271 => assert_eq!(row, 12),
+            163..=1036 => assert_eq!(row, 12),
             _ => assert_eq!(row, 5),
+        }
+    }
+}
+
+/// Every number of characters around 1,388, which the longest full name has,
+/// and there every padding. Of 1,388 characters only a text with two pads is
+/// short enough: with one it stands for 1,037 bytes, with none for 1,038.
+fn longest_texts(compare: &mut Compare) {
+    let mut case = make::open_long_name(&mut compare.random, LONGEST_NAME);
+    case.buffers[0] = compare.random.bytes(1200);
+    for len in LONGEST_FULL_NAME - 20..=LONGEST_FULL_NAME + 20 {
+        for pads in 0..4 {
+            let text = ["A".repeat(len - 4 - pads), "=".repeat(pads)].concat() + ".c9r";
+            let bytes = len / 4 * 3 - 3 - pads;
+            let right = len % 4 == 0 && pads < 3 && bytes <= 1036;
+            let row = compare.row(&with_text(&case, text.into_bytes()));
+            assert_eq!(row, if right { 12 } else { 5 });
         }
     }
 }

@@ -3,7 +3,7 @@
 use super::{flip, resize};
 use crate::case::{Call, Case};
 use crate::common::random::Random;
-use crate::make;
+use crate::make::{self, LONGEST_NAME, LONGEST_PLAIN};
 use second::base64url;
 
 pub fn directory_id(case: &mut Case, random: &mut Random) {
@@ -20,7 +20,7 @@ pub fn directory_id(case: &mut Case, random: &mut Random) {
 }
 
 pub fn name_size(case: &mut Case, random: &mut Random) {
-    let len = random.below(2) * (256 + random.below(2) * random.below(1000));
+    let len = random.below(2) * (LONGEST_NAME + 1 + random.below(2) * random.below(1000));
     case.inputs[3] = random.bytes(len);
 }
 
@@ -39,11 +39,11 @@ pub fn text(case: &mut Case, random: &mut Random) {
             text[last] ^= 1 + random.below(255) as u8;
         }
         5 => {
-            let len = [random.below(17), 272 + random.below(100)][random.below(2)];
+            let len = [random.below(17), LONGEST_NAME + 17 + random.below(100)][random.below(2)];
             *text = full_name(&random.bytes(len));
         }
         _ if call == Call::OpenName => {
-            let len = 163 + random.below(109);
+            let len = LONGEST_PLAIN + 17 + random.below(LONGEST_NAME - LONGEST_PLAIN);
             *text = full_name(&random.bytes(len));
         }
         _ => spare_bits(text, random),
@@ -69,7 +69,7 @@ pub fn hash_name(case: &mut Case, random: &mut Random) {
         }
         2 => case.inputs[3][31] = b'r',
         _ => {
-            let len = 1 + random.below(146);
+            let len = 1 + random.below(LONGEST_PLAIN);
             let other = make::open_long_name(random, len);
             case.inputs = other.inputs;
             case.buffers = other.buffers;

@@ -1,6 +1,6 @@
 //! Names and paths.
 
-use super::{buffer, with_room};
+use super::{buffer, with_room, LONGEST_FULL_NAME};
 use crate::case::{Call, Case};
 use crate::common::random::Random;
 use second::vault::{self, WrittenName};
@@ -38,7 +38,7 @@ pub fn open_written(random: &mut Random, write: &Case) -> Case {
 /// The name can be one that is stored as it is: then row 11 applies.
 pub fn open_long_name(random: &mut Random, len: usize) -> Case {
     let write = write_name(random, len);
-    let (mut stored, mut full) = (vec![0; 220], vec![0; 368]);
+    let (mut stored, mut full) = (vec![0; 220], vec![0; LONGEST_FULL_NAME]);
     let [enc, mac, id, name] = &write.inputs[..] else {
         panic!("not what a name is written of");
     };

@@ -1,5 +1,6 @@
 //! Lengths, numbers and ranges, often at edges.
 
+use super::LONGEST_NAME;
 use crate::common::random::Random;
 use second::vault::CHUNK_LEN;
 
@@ -18,6 +19,15 @@ pub fn file_len(random: &mut Random) -> usize {
         14..17 => CHUNK_LEN - 2 + random.below(5),
         17 | 18 => 2 * CHUNK_LEN - 2 + random.below(5),
         _ => random.below(4 * CHUNK_LEN),
+    }
+}
+
+/// Mostly near the shortest that is asked for, and often at the longest.
+pub fn name_len(random: &mut Random, shortest: usize) -> usize {
+    match random.below(4) {
+        0 | 1 => shortest + random.below(200),
+        2 => shortest + random.below(LONGEST_NAME + 1 - shortest),
+        _ => LONGEST_NAME - random.below(20),
     }
 }
 

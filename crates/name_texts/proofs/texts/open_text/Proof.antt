@@ -10,7 +10,7 @@ use borrow.Author.Tests.{not-true, not-false}
 use Rattle.octets.specs.Bytes.{placed}
 use Rattle.aes_spec.specs.Cipher.{aes}
 use Rattle.siv.specs.Siv as siv
-use Rattle.name_spec.specs.Names.{sealedOf, nameLength, nameOf, nameGood}
+use Rattle.name_spec.specs.Names.{nameLimit, ivSize, sealedOf, nameLength, nameOf, nameGood}
 use Rattle.name_spec.proofs.Texts.{text-facts, text-size, length-name}
 use Rattle.name_texts.proofs.Placing.{front, placed-filled}
 use borrow.Author.Needs.{needs}
@@ -31,7 +31,7 @@ sealed : (c : tie.After-sealed3) →
 unfolding sealedOf
 sealed c =
     let x = c .before .before .before .before .before .before .before .before .before .before .args in
-    ap (take (x .n + 16)) (c .before .before .decode .ensures) ∙ front (sealedOf (x .text .now)) (replicate 271 0) (x .n + 16) (sealed-size c)
+    ap (take (x .n + 16)) (c .before .before .decode .ensures) ∙ front (sealedOf (x .text .now)) (replicate (nameLimit + ivSize) 0) (x .n + 16) (sealed-size c)
 
 matches : (c : tie.After-open-under) →
     let x = c .before .before .before .before .before .before .before .before .before .before .before .before .args in
@@ -53,8 +53,8 @@ name : (c : tie.After-open-under) →
 unfolding nameOf
 name c =
     let x = c .before .before .before .before .before .before .before .before .before .before .before .before .args in
-    ap (take (x .n)) (c .open-under .ensures .1 ∙ ap (λ (z : List ℕ). placed (siv.plain (aes 8 (x .enc .now)) z) 0 (replicate 255 0)) (sealed (c .before .before)))
-    ∙ front (nameOf (x .enc .now) (x .text .now)) (replicate 255 0) (x .n) (name-size c)
+    ap (take (x .n)) (c .open-under .ensures .1 ∙ ap (λ (z : List ℕ). placed (siv.plain (aes 8 (x .enc .now)) z) 0 (replicate nameLimit 0)) (sealed (c .before .before)))
+    ∙ front (nameOf (x .enc .now) (x .text .now)) (replicate nameLimit 0) (x .n) (name-size c)
 
 sub-k : tie.Need-sub-k
 sub-k c = let t = text-size (c .before .before .before .before .before .args .text .now) (c .before .before .before .before .before .pre .1 .0) in omega (arith, t)
@@ -77,7 +77,7 @@ unfolding nameLength
 array-share-prefix-sealed c =
     let p = c .before .before .before .before .before .before .before .before .before .pre .1 in
     let f = text-facts (c .before .before .before .before .before .before .before .before .before .args .text .now) (p .0) in
-    let l : length (c .before .decode .last .1 .1 .0) ≡ 271 = search needs in
+    let l : length (c .before .decode .last .1 .1 .0) ≡ nameLimit + ivSize = search needs in
     omega (arith, l, f .low, f .high, p .1)
 
 slice-aggregate-open-under : tie.Need-slice-aggregate-open-under
@@ -101,7 +101,7 @@ unfolding nameLength
 array-share-prefix-name c =
     let p = c .before .before .before .before .before .before .before .before .before .before .before .before .before .before .pre .1 in
     let f = text-facts (c .before .before .before .before .before .before .before .before .before .before .before .before .before .before .args .text .now) (p .0) in
-    let l : length (c .before .before .open-under .last .1 .1 .1 .1 .0) ≡ 255 = search needs in
+    let l : length (c .before .before .open-under .last .1 .1 .1 .1 .0) ≡ nameLimit = search needs in
     omega (arith, l, f .high, p .1)
 
 slice-aggregate-copy-at : tie.Need-slice-aggregate-copy-at

@@ -9,7 +9,7 @@ use lib.ListN.{length, take, replicate}
 use Rattle.octets.specs.Bytes.{placed}
 use Rattle.encoding.specs.Base64url as base64url
 use Rattle.encoding.proofs.Laws.{encoded-length}
-use Rattle.name_spec.specs.Names.{fullEnd, sealedName, fullName}
+use Rattle.name_spec.specs.Names.{nameLimit, ivSize, fullEnd, sealedName, fullName}
 use Rattle.name_spec.proofs.Texts.{length-sealed}
 use Rattle.name_texts.proofs.Placing.{front, placed-after}
 use borrow.Author.Needs.{needs}
@@ -25,7 +25,7 @@ sealed c =
     let x = c .before .before .before .before .before .before .before .before .before .args in
     let n = length (x .name .now) + 16 in
     let s = sealedName (x .enc .now) (x .mac .now) (x .id .now) (x .name .now) in
-    ap (take n) (c .before .before .seal-under .ensures) ∙ front s (replicate 271 0) n (length-sealed (x .enc .now) (x .mac .now) (x .id .now) (x .name .now))
+    ap (take n) (c .before .before .seal-under .ensures) ∙ front s (replicate (nameLimit + ivSize) 0) n (length-sealed (x .enc .now) (x .mac .now) (x .id .now) (x .name .now))
 
 slice-aggregate-seal-under : tie.Need-slice-aggregate-seal-under
 slice-aggregate-seal-under c = search needs

@@ -1,0 +1,66 @@
+-- The longest full name, and the room that is enough for any name.
+-- Assumes nothing.
+use Prim.Native.Nat.{ℕ, _≤_}
+use mathlib.Core.Path.{refl, sym, ap, _∙_}
+use mathlib.Core.Bool.{true}
+use mathlib.Core.List.{List, [], _∷_}
+use native.Mathlib.Omega.{arith}
+use lib.ListN.{length, length-append}
+use lib.Dec.{lit≤}
+use Rattle.octets.proofs.Equality.{true-false}
+use Rattle.octets.proofs.Rows.{answer-exactly}
+use Rattle.encoding.specs.Base64url as base64url
+use Rattle.encoding.proofs.Laws.{encoded-length}
+use Rattle.name_spec.specs.Names.{fullEnd, fullLength, nameLength}
+use Rattle.name_spec.specs.Calls.{writtenLengths, writeNameRows, writeName, openNameRows, openName, openLongNameRows, openLongName}
+use Rattle.name_spec.specs.Rules.{NameSize, TextForm}
+use Rattle.name_spec.specs.Statements.{LongestNames, RoomForAny}
+use Rattle.name_spec.proofs.Texts.{length-full, text-lengths}
+use Rattle.name_spec.proofs.Rules.{write-matches, open-matches, open-long-matches}
+
+-- ---- lengths
+
+full-limit : (name : List ℕ) → NameSize name → fullLength (length name) ≤ 1388
+unfolding base64url.encodedLength
+full-limit name size = omega (arith, size .1)
+
+text-limit : (t : List ℕ) → TextForm t → length t ≤ 1388
+unfolding base64url.encodedLength
+text-limit t f =
+    let s = f .0 in
+    let l = ap length (sym (f .4)) ∙ length-append (base64url.encode true s) fullEnd in
+    omega (arith, l, encoded-length true s, f .3)
+
+name-limit : (t : List ℕ) → TextForm t → nameLength t ≤ 1020
+name-limit t f = let n = ap nameLength (sym (f .4)) ∙ text-lengths .1 (f .0) (f .1) in omega (arith, n, f .3)
+
+pub longest-names : LongestNames
+unfolding base64url.encodedLength
+longest-names = (
+  λ enc mac id name size. omega (arith, length-full enc mac id name, full-limit name size),
+  λ enc mac id name e. ((omega (arith, e), omega (arith, e)), length-full enc mac id name ∙ ap fullLength e),
+  text-limit,
+)
+
+-- ---- room
+
+module _ (enc mac id : List ℕ) where
+  pub room-for-any : RoomForAny enc mac id
+  unfolding writeNameRows writeName openNameRows openName openLongNameRows openLongName
+  room-for-any = (
+    λ name stored full hs hf e.
+        let m = write-matches enc mac id name (length stored) (length full) in
+        let f = answer-exactly (writeNameRows enc mac id name (length stored) (length full)) refl (writtenLengths (fullLength (length name))) .0 3 (lit≤ tt) .0 e in
+        let h = full-limit name (m .2 .2 .1 .0 (f .1 .1 .0)) in
+        true-false (sym (f .1 .1 .1) ∙ m .2 .2 .2 .1 .1 (λ p. omega (arith, p, hs), λ p. (omega (arith, hs), omega (arith, h, hf)))),
+    λ t out ho e.
+        let m = open-matches enc mac id t (length out) in
+        let f = answer-exactly (openNameRows enc mac id t (length out)) refl (nameLength t ∷ []) .0 3 (lit≤ tt) .0 e in
+        let h = name-limit t (m .2 .2 .1 .0 (f .1 .1 .0) .0) in
+        true-false (sym (f .1 .1 .1) ∙ m .2 .2 .2 .1 .1 (omega (arith, h, ho))),
+    λ s t out ho e.
+        let m = open-long-matches enc mac id s t (length out) in
+        let f = answer-exactly (openLongNameRows enc mac id s t (length out)) refl (nameLength t ∷ []) .0 3 (lit≤ tt) .0 e in
+        let h = name-limit t (m .2 .2 .1 .0 (f .1 .1 .0)) in
+        true-false (sym (f .1 .1 .1) ∙ m .2 .2 .2 .1 .1 (omega (arith, h, ho))),
+  )
