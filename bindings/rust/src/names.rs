@@ -51,8 +51,9 @@ pub fn write_name(
     })
 }
 
-/// Writes the name of a stored full name, and gives its length. Refused with
-/// rows 1, 2, 5, 7 and 12.
+/// Writes the name of a stored full name, and gives its length. A buffer of
+/// [`MAX_NAME_LEN`] bytes has room for any name. Refused with rows 1, 2, 5, 7 and
+/// 12.
 pub fn open_name(
     enc: &[u8],
     mac: &[u8],
@@ -66,8 +67,9 @@ pub fn open_name(
     done(status, length, 0)
 }
 
-/// Writes the name with this stored and this full name, and gives its length.
-/// Refused with rows 1, 2, 5, 7, 11 and 12.
+/// Writes the name with this stored and this full name, and gives its length. A
+/// buffer of [`MAX_NAME_LEN`] bytes has room for any name. Refused with rows 1, 2,
+/// 5, 7, 11 and 12.
 pub fn open_long_name(
     enc: &[u8],
     mac: &[u8],

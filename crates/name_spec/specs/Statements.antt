@@ -153,6 +153,7 @@ abbrev pub NameDemandOne : Type 0
 NameDemandOne = (enc mac id : List ℕ) → NameRowsExactly enc mac id × NamesAscend enc mac id
 
 -- Demand 2, of names and directory paths: they are written exactly where they fit, reading gives back what was written, and nothing else is read.
+-- And the longest names, with the room that is enough for any.
 abbrev pub NameDemandTwo : Type 0
 NameDemandTwo =
     ((enc mac id : List ℕ)
