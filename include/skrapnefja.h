@@ -8,7 +8,8 @@
  *   None of them may overlap another argument. The numbers may not be null.
  *
  * What is returned and written
- *   Each function returns SKRAPNEFJA_DONE, or the row of the refusal: the lowest that applies among those named at the function.
+ *   Each function returns SKRAPNEFJA_DONE, or the row of the refusal: the first that applies of those named at the function.
+ *   They are tried from the lowest on, but that row 3 stands last where a name is opened.
  *   Done: the answer stands at the front of `out`, its length in `length`. Bytes of `out` past it, and `at`, are as before.
  *   Refused: nothing is written, but that row 10 writes the number of the chunk to `at`.
  *
@@ -34,7 +35,8 @@ enum skrapnefja_row {
     SKRAPNEFJA_DONE = 0,
     SKRAPNEFJA_KEY_OR_NONCE_SIZE = 1, /* a key has not 32 bytes, a nonce not 12, or there is not one nonce for each chunk */
     SKRAPNEFJA_DIRECTORY_ID = 2,      /* the directory ID has more than 36 bytes, or one that is not ASCII */
-    SKRAPNEFJA_NAME_SIZE = 3,         /* the name to write has no byte, or more than 1,020 */
+    SKRAPNEFJA_NAME = 3,              /* the name has no byte, more than 1,020, or is not proper text: well-formed UTF-8 without a
+                                         zero byte and without '/'; at the openers of names tried last, behind row 12 */
     SKRAPNEFJA_LENGTH = 4,            /* no file has this length, or the cleartext is over the limit; a header isn't 68 bytes; a
                                          chunk's cleartext isn't 1 to 32,768 bytes, or the chunk not 29 to 32,796 */
     SKRAPNEFJA_TEXT = 5,              /* the text of a name is broken; or of more than 220 characters at skrapnefja_open_name */
@@ -133,21 +135,22 @@ uint32_t skrapnefja_open_chunk(const uint8_t *content_key, size_t content_key_le
  */
 
 /*
- * Writes what is stored for a name of 1 to 1,020 bytes in the directory with this ID. Where the full name is stored, `length` is its
- * length, `full_length` is 0, and `full` is neither needed nor written. Where it is shortened, `stored` gets the hash name, and
- * `full` the full name, of `full_length` characters, at most 1,388. Rows 1, 2, 3, 7.
+ * Writes what is stored for a name of 1 to 1,020 bytes in the directory with this ID. The name is proper text: well-formed UTF-8
+ * without a zero byte and without '/', or row 3. That it is in Unicode's Normalization Form C is the caller's to see to. Where
+ * the full name is stored, `length` is its length, `full_length` is 0, and `full` is neither needed nor written. Where it is
+ * shortened, `stored` gets the hash name, and `full` the full name, of `full_length` characters, at most 1,388. Rows 1, 2, 3, 7.
  */
 uint32_t skrapnefja_write_name(const uint8_t *enc, size_t enc_len, const uint8_t *mac, size_t mac_len,
                                const uint8_t *dir_id, size_t dir_id_len, const uint8_t *name, size_t name_len,
                                uint8_t *stored, size_t stored_len, uint8_t *full, size_t full_len,
                                uint64_t *length, uint64_t *full_length);
 
-/* Opens a stored name that is a full name, unshortened: writes the name. Rows 1, 2, 5, 7, 12. */
+/* Opens a stored name that is a full name, unshortened: writes the name, which is proper text. Rows 1, 2, 5, 7, 12, 3. */
 uint32_t skrapnefja_open_name(const uint8_t *enc, size_t enc_len, const uint8_t *mac, size_t mac_len,
                               const uint8_t *dir_id, size_t dir_id_len, const uint8_t *stored, size_t stored_len,
                               uint8_t *out, size_t out_len, uint64_t *length);
 
-/* Opens a shortened name, by what is stored and its full name: writes the name. Rows 1, 2, 5, 7, 11, 12. */
+/* Opens a shortened name, by what is stored and its full name: writes the name, which is proper text. Rows 1, 2, 5, 7, 11, 12, 3. */
 uint32_t skrapnefja_open_long_name(const uint8_t *enc, size_t enc_len, const uint8_t *mac, size_t mac_len,
                                    const uint8_t *dir_id, size_t dir_id_len, const uint8_t *stored, size_t stored_len,
                                    const uint8_t *full, size_t full_len,

@@ -1,5 +1,6 @@
 /*
- * Writes a vault file of two chunks and reads it back, then writes two names and opens them. Ends with status 0 if all is as expected.
+ * Writes a vault file of two chunks and reads it back, then writes two names and opens them, and has a third refused. Ends with status 0
+ * if all is as expected.
  * Keys and nonces are fixed here so that each run prints the same; a real program draws them from a random generator.
  */
 #include <inttypes.h>
@@ -151,6 +152,26 @@ static void write_and_open_a_name(void)
     printf("opened it: %.*s\n", (int)length, (const char *)out);
 }
 
+/* A name with a byte that is not UTF-8 is refused, and nothing is stored. */
+static void refuse_a_stray_byte(void)
+{
+    static const uint8_t name[] = {'l', 'o', 'g', 0xFF};
+    uint8_t stored[SKRAPNEFJA_STORED_NAME_MAX];
+    uint8_t full[SKRAPNEFJA_FULL_NAME_MAX];
+    uint64_t length = 99;
+    uint64_t full_length = 99;
+    uint32_t row;
+
+    memset(stored, UNTOUCHED, sizeof stored);
+    memset(full, UNTOUCHED, sizeof full);
+    row = skrapnefja_write_name(enc, sizeof enc, mac, sizeof mac, enc, 0, name, sizeof name, stored, sizeof stored, full,
+                                sizeof full, &length, &full_length);
+    check(row == SKRAPNEFJA_NAME, "a name with a stray byte");
+    check(length == 99 && full_length == 99 && all_untouched(stored, sizeof stored) && all_untouched(full, sizeof full),
+          "nothing is stored for it");
+    printf("wrote a name with a stray byte: refused %" PRIu32 "\n", row);
+}
+
 /* A long name is stored as its hash name; its full name is kept beside that, and both are needed to open it. */
 static void write_and_open_a_long_name(void)
 {
@@ -189,5 +210,6 @@ int main(void)
     damage_the_second_chunk();
     write_and_open_a_name();
     write_and_open_a_long_name();
+    refuse_a_stray_byte();
     return 0;
 }

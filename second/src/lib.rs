@@ -18,4 +18,5 @@ pub mod ghash;
 pub mod hex;
 pub mod sha1;
 pub mod siv;
+pub mod utf8;
 pub mod vault;

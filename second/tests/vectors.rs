@@ -10,7 +10,7 @@ use common::primitives::{self, DONE, REFUSED};
 use second::aes::{Aes128, Aes256};
 use second::cmac::{self, Cmac};
 use second::siv::{self, Siv};
-use second::{base32, base64url, gcm, sha1};
+use second::{base32, base64url, gcm, sha1, utf8};
 
 /// What is in `out` before a call.
 const OLD: u8 = 0xa5;
@@ -244,4 +244,29 @@ fn check_base64url(data: &[u8], text: &str, padded: bool) {
     assert_eq!(status, DONE);
     assert_eq!(out, data);
     assert_eq!(length, data.len() as u64);
+}
+
+/// RFC 3629: the texts of section 7, and what sections 3 and 10 warn of.
+#[test]
+fn utf8_texts() {
+    for text in [
+        &b"\x41\xe2\x89\xa2\xce\x91\x2e"[..],
+        b"\xed\x95\x9c\xea\xb5\xad\xec\x96\xb4",
+        b"\xe6\x97\xa5\xe6\x9c\xac\xe8\xaa\x9e",
+        b"\xef\xbb\xbf\xf0\xa3\x8e\xb4",
+    ] {
+        check_proper_text(text, true);
+    }
+    for text in [
+        &b"\xc0\x80"[..],
+        b"\xed\xa1\x8c\xed\xbe\xb4",
+        b"\x2f\xc0\xae\x2e\x2f",
+    ] {
+        check_proper_text(text, false);
+    }
+}
+
+fn check_proper_text(text: &[u8], proper: bool) {
+    assert_eq!(utf8::is_proper(text), proper);
+    assert_eq!(primitives::proper_text(text) == DONE, proper);
 }

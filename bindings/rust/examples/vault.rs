@@ -59,10 +59,21 @@ fn main() -> Result<(), Refusal> {
         String::from_utf8_lossy(stored)
     );
 
+    // An opened name is UTF-8.
     let mut name = [0; skrapnefja::MAX_NAME_LEN];
     let length = skrapnefja::open_name(&enc, &mac, b"", stored, &mut name)?;
-    println!("which is {}", String::from_utf8_lossy(&name[..length]));
+    let name = std::str::from_utf8(&name[..length]).expect("proper text");
+    println!("which is {name}");
+    stray_byte(&enc, &mac);
     long_name(&enc, &mac)
+}
+
+/// A name that is not UTF-8 is refused, and nothing is stored.
+fn stray_byte(enc: &[u8], mac: &[u8]) {
+    let mut stored = [0; skrapnefja::MAX_STORED_LEN];
+    let written = skrapnefja::write_name(enc, mac, b"", b"log\xff", &mut stored, &mut []);
+    assert_eq!((written, stored), (Err(Refusal::Name), [0; 220]));
+    println!("log\\xff: row 3, {}", Refusal::Name);
 }
 
 /// A long name is stored as its hash name. Its full name is kept beside that,

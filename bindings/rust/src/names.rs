@@ -29,8 +29,10 @@ pub enum WrittenName {
     },
 }
 
-/// Encrypts a name. The stored name goes to `stored`; if it is shortened, the
-/// full name goes to `full`, which otherwise stays and may be empty. Buffers of
+/// Encrypts a name, which is proper text: well-formed UTF-8 without a zero byte
+/// and without '/'. That it is in Normalization Form C is the caller's to see
+/// to. The stored name goes to `stored`; if it is shortened, the full name goes
+/// to `full`, which otherwise stays and may be empty. Buffers of
 /// [`MAX_STORED_LEN`] and [`MAX_FULL_LEN`] bytes have room for any name. Refused
 /// with rows 1, 2, 3 and 7.
 pub fn write_name(
@@ -51,9 +53,9 @@ pub fn write_name(
     })
 }
 
-/// Writes the name of a stored full name, and gives its length. A buffer of
-/// [`MAX_NAME_LEN`] bytes has room for any name. Refused with rows 1, 2, 5, 7 and
-/// 12.
+/// Writes the name of a stored full name, and gives its length. What is written
+/// is UTF-8. A buffer of [`MAX_NAME_LEN`] bytes has room for any name. Refused
+/// with rows 1, 2, 5, 7, 12 and then 3.
 pub fn open_name(
     enc: &[u8],
     mac: &[u8],
@@ -67,9 +69,9 @@ pub fn open_name(
     done(status, length, 0)
 }
 
-/// Writes the name with this stored and this full name, and gives its length. A
-/// buffer of [`MAX_NAME_LEN`] bytes has room for any name. Refused with rows 1, 2,
-/// 5, 7, 11 and 12.
+/// Writes the name with this stored and this full name, and gives its length.
+/// What is written is UTF-8. A buffer of [`MAX_NAME_LEN`] bytes has room for any
+/// name. Refused with rows 1, 2, 5, 7, 11, 12 and then 3.
 pub fn open_long_name(
     enc: &[u8],
     mac: &[u8],

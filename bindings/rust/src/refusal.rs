@@ -4,7 +4,8 @@ use std::error::Error;
 use std::fmt::{self, Display, Formatter};
 
 /// The twelve refusals, in the order in which a call tries those that speak of
-/// its input. A refused call has changed no buffer.
+/// its input, but that a name that is opened gets row 3 last. A refused call has
+/// changed no buffer.
 #[derive(Clone, Copy, Debug, PartialEq, Eq, Hash)]
 pub enum Refusal {
     /// Row 1: a key is not 32 bytes, a nonce is not 12, or there are not 12
@@ -12,8 +13,11 @@ pub enum Refusal {
     KeyOrNonceSize,
     /// Row 2: the directory ID has more than 36 bytes, or one of 128 or more.
     DirectoryId,
-    /// Row 3: the name to write has no bytes, or more than 1,020.
-    NameSize,
+    /// Row 3: the name has no bytes, or more than 1,020, or is not proper text:
+    /// well-formed UTF-8 without a zero byte and without '/'. Opening a name
+    /// gives it, once the synthetic IV was found right, where the sealed bytes
+    /// are not proper text.
+    Name,
     /// Row 4: no file has this length, or the cleartext is over 16,777,216
     /// bytes; a header is not 68 bytes; a chunk's cleartext is not 1 to 32,768
     /// bytes, or its stored form not 29 to 32,796.
@@ -45,7 +49,7 @@ impl Refusal {
         match self {
             Refusal::KeyOrNonceSize => 1,
             Refusal::DirectoryId => 2,
-            Refusal::NameSize => 3,
+            Refusal::Name => 3,
             Refusal::Length => 4,
             Refusal::Text => 5,
             Refusal::Range => 6,
@@ -63,7 +67,7 @@ impl Refusal {
         match row {
             1 => Refusal::KeyOrNonceSize,
             2 => Refusal::DirectoryId,
-            3 => Refusal::NameSize,
+            3 => Refusal::Name,
             4 => Refusal::Length,
             5 => Refusal::Text,
             6 => Refusal::Range,
@@ -83,7 +87,7 @@ impl Display for Refusal {
         f.write_str(match self {
             Refusal::KeyOrNonceSize => "a key or nonce has the wrong size",
             Refusal::DirectoryId => "not a directory ID",
-            Refusal::NameSize => "the name is empty or too long",
+            Refusal::Name => "the name is empty, too long or not proper text",
             Refusal::Length => "the length is wrong",
             Refusal::Text => "not the text of an encrypted name",
             Refusal::Range => "the range ends behind the cleartext",

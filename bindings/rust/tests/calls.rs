@@ -269,6 +269,39 @@ fn shortened_names() {
     assert_eq!(open(&MAC, b"", &stored, &full, 147), 12);
 }
 
+/// The full names of the bytes `log\xff` and of 147 bytes FF, and the hash name
+/// of the second, as another program could store them.
+const STRAY: &[u8] = b"l9FzfPEc4alEQu_U5mc5EH00yhk=.c9r";
+const LONG_STRAY: &[u8] = b"YNjoOurUMEtrTWVLOX0lgnY66EV4LIIZZ7BoTF8CVcvfDWFCL8h3ziGUT5UxdpA5\
+    IrieSGbs9s1vdd1LwciyJMZMNcAZpE0eC-krobjJArqlO_TlOT528MTEyoA4eD3zK_bx5vFP6kZa-VB_nw5av2qt3x9I\
+    iZh6vtqJuDl9ztuzhV5YIJ4kHYEnzI9hM0fmm4v3mHRkHCNeITbxvgpNGdDZiw==.c9r";
+const LONG_STRAY_HASH: &[u8] = b"hFFL1ne717ByBqnDt0gV7H89rIU=.c9s";
+
+/// Row 3, but that row 12 comes first where a name is opened.
+#[test]
+fn not_text() {
+    for name in [
+        &b"log\xff"[..],
+        b"a/b",
+        b"a\0",
+        b"\xc0\xaf",
+        b"\xed\xa0\x80",
+    ] {
+        let refusal = refused(220, |out| write_name(&ENC, &MAC, ID, name, out, &mut []));
+        assert_eq!(refusal, Refusal::Name);
+    }
+    let open = |id: &[u8]| refused(4, |out| open_name(&ENC, &MAC, id, STRAY, out));
+    assert_eq!(open(ID), Refusal::Name);
+    assert_eq!(open(b""), Refusal::SyntheticIv);
+    let open = |id: &[u8]| {
+        refused(147, |out| {
+            open_long_name(&ENC, &MAC, id, LONG_STRAY_HASH, LONG_STRAY, out)
+        })
+    };
+    assert_eq!(open(ID), Refusal::Name);
+    assert_eq!(open(b""), Refusal::SyntheticIv);
+}
+
 /// The sizes that are named are those of the longest names, plain and
 /// shortened.
 #[test]

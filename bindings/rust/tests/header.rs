@@ -1,5 +1,5 @@
 //! The functions are declared here as they are in `include/skrapnefja.h`, and the
-//! sizes are the same.
+//! sizes and rows are the same.
 
 use skrapnefja::*;
 use std::collections::BTreeMap;
@@ -35,6 +35,34 @@ fn same_sizes() {
         ("FULL_NAME_MAX", MAX_FULL_LEN),
     ] {
         assert_eq!(c[name], size, "{name}");
+    }
+}
+
+/// Each row has its name and number in C, and its refusal here.
+#[test]
+fn same_rows() {
+    let code = without_comments(HEADER);
+    let (_, rows) = code.split_once("enum skrapnefja_row {").expect("rows");
+    let (rows, _) = rows.split_once('}').expect("an end");
+    let rows: Vec<_> = rows.split(',').map(str::trim).collect();
+    let expected = [
+        ("KEY_OR_NONCE_SIZE", Refusal::KeyOrNonceSize),
+        ("DIRECTORY_ID", Refusal::DirectoryId),
+        ("NAME", Refusal::Name),
+        ("LENGTH", Refusal::Length),
+        ("TEXT", Refusal::Text),
+        ("RANGE", Refusal::Range),
+        ("ROOM", Refusal::Room),
+        ("REPEATED_NONCE", Refusal::RepeatedNonce),
+        ("HEADER", Refusal::Header),
+        ("CHUNK", Refusal::Chunk(7)),
+        ("HASH_NAME", Refusal::HashName),
+        ("SYNTHETIC_IV", Refusal::SyntheticIv),
+    ];
+    assert_eq!(rows[0], "SKRAPNEFJA_DONE = 0");
+    assert_eq!(rows.len(), 1 + expected.len());
+    for (row, (name, refusal)) in rows[1..].iter().zip(expected) {
+        assert_eq!(*row, format!("SKRAPNEFJA_{name} = {}", refusal.row()));
     }
 }
 

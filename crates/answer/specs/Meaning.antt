@@ -5,7 +5,7 @@ use mathlib.Core.List.{List, [], _∷_}
 use lib.ListN.{replicate}
 use Rattle.octets.specs.Rows.{Outcome, done, refused, refusedAt}
 use Rattle.answer.specs.declared.Refusal.{Refusal}
-use Rattle.answer.specs.declared.Refusal.the-variants.{KeyOrNonceSize, DirectoryId, NameSize, Length, Text, Range, Room, RepeatedNonce, Header, Chunk, HashName, SyntheticIv}
+use Rattle.answer.specs.declared.Refusal.the-variants.{KeyOrNonceSize, DirectoryId, Name, Length, Text, Range, Room, RepeatedNonce, Header, Chunk, HashName, SyntheticIv}
 use Rattle.answer.specs.declared.Answer.{Answer}
 use Rattle.answer.specs.declared.Answer.the-variants.{Done, Refused}
 use Rattle.answer.specs.declared.HeaderAnswer.{HeaderAnswer}
@@ -15,7 +15,7 @@ use Rattle.answer.specs.declared.NameAnswer.the-variants as name
 abbrev pub row : Refusal → Outcome
 row KeyOrNonceSize = refused 1
 row DirectoryId = refused 2
-row NameSize = refused 3
+row Name = refused 3
 row Length = refused 4
 row Text = refused 5
 row Range = refused 6

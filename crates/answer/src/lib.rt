@@ -7,7 +7,7 @@ ghost use Rattle.answer.specs.Meaning.{row};
 pub enum Refusal {
     KeyOrNonceSize,
     DirectoryId,
-    NameSize,
+    Name,
     Length,
     Text,
     Range,
@@ -46,7 +46,7 @@ pub fn row_number(refusal: Refusal) -> u32
     match refusal {
         Refusal::KeyOrNonceSize => 1,
         Refusal::DirectoryId => 2,
-        Refusal::NameSize => 3,
+        Refusal::Name => 3,
         Refusal::Length => 4,
         Refusal::Text => 5,
         Refusal::Range => 6,

@@ -3,7 +3,7 @@
 use Rattle.name_spec.specs.Statements.{NameDemandOne, NameDemandTwo}
 use Rattle.name_spec.proofs.Texts.{text-lengths}
 use Rattle.name_spec.proofs.Rules.{name-rows-exactly, names-ascend}
-use Rattle.name_spec.proofs.Openings.{path-writes-exactly, name-writes-exactly, name-written-opens, name-opens-exactly, long-name-opens-exactly, moved-name-exactly, one-name}
+use Rattle.name_spec.proofs.Openings.{path-writes-exactly, name-writes-exactly, name-written-opens, name-opens-exactly, long-name-opens-exactly, not-text-exactly, moved-name-exactly, one-name}
 use Rattle.name_spec.proofs.Longest.{longest-names, room-for-any}
 
 pub name-demand-one : NameDemandOne
@@ -17,6 +17,7 @@ name-demand-two = (
     name-written-opens enc mac id,
     name-opens-exactly enc mac id,
     long-name-opens-exactly enc mac id,
+    not-text-exactly enc mac id,
     moved-name-exactly enc mac id,
     room-for-any enc mac id,
   ),

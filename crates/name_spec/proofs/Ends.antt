@@ -2,16 +2,18 @@
 -- Assumes nothing.
 use Prim.Native.Nat.{ℕ, _≤_, _<_}
 use mathlib.Core.Path.{_≡_, refl, ap, ap₂}
-use mathlib.Core.Bool.{true, cond}
+use mathlib.Core.Bool.{true, false, not, _||_, cond}
 use mathlib.Core.Logic.{_↔_}
 use mathlib.Core.List.{List, [], _∷_}
 use lib.ListN.{length}
+use lib.Dec.{ltb}
 use borrow.Author.Tests.{le-leb, lt-leb}
-use Rattle.octets.specs.Bytes.{filled}
+use Rattle.octets.specs.Bytes.{filled, same}
 use Rattle.octets.specs.Rows.{Outcome, done, Row, answer, First, NoRow, outcomeAt, numbered, End, ended, ending, EndsExactly, Rule, Exactly}
 use Rattle.octets.proofs.Rows.{ends-exactly, Matches, ends-by}
-use Rattle.name_spec.specs.Names.{threshold, path, fullName, fullLength, hashName, short, storedName, nameLength, nameOf}
-use Rattle.name_spec.specs.Calls.{pathLength, hashLength, storedLength, writtenLengths, NameEnd, nameEnded, nameEnding, dirPathRows, dirPath, writeNameRows, writeName, openNameRows, openName, openLongNameRows, openLongName}
+use Rattle.siv_gcm.specs.SivGcm.{masterKeysRight}
+use Rattle.name_spec.specs.Names.{threshold, idRight, path, fullName, fullLength, hashName, short, storedName, textRight, nameLength, nameOf}
+use Rattle.name_spec.specs.Calls.{pathLength, hashLength, storedLength, writtenLengths, NameEnd, nameEnded, nameEnding, dirPathRows, dirPath, writeNameRows, writeName, openTextRows, openText, openNameRows, openName, openLongNameRows, openLongName}
 use Rattle.name_spec.specs.Statements.{NameEndsBy}
 use Rattle.name_spec.proofs.Texts.{length-full}
 
@@ -65,7 +67,7 @@ pub name-ends : (enc mac id : List ℕ)
     × ((t out : List ℕ) → EndsExactly (openNameRows enc mac id t (length out)) (nameLength t ∷ []) (filled (nameOf enc t) (nameLength t) out) out (openName enc mac id t out))
     × ((s t out : List ℕ)
     → EndsExactly (openLongNameRows enc mac id s t (length out)) (nameLength t ∷ []) (filled (nameOf enc t) (nameLength t) out) out (openLongName enc mac id s t out))
-unfolding dirPathRows dirPath writeNameRows writeName openNameRows openName openLongNameRows openLongName
+unfolding dirPathRows dirPath writeNameRows writeName openTextRows openNameRows openName openLongNameRows openLongName
 name-ends enc mac id = (
   λ out. ends-exactly (dirPathRows enc mac id (length out)) refl (pathLength ∷ []) (filled (path enc mac id) pathLength out) out,
   λ name stored full.
@@ -75,6 +77,25 @@ name-ends enc mac id = (
   λ t out. ends-exactly (openNameRows enc mac id t (length out)) refl (nameLength t ∷ []) (filled (nameOf enc t) (nameLength t) out) out,
   λ s t out. ends-exactly (openLongNameRows enc mac id s t (length out)) refl (nameLength t ∷ []) (filled (nameOf enc t) (nameLength t) out) out,
 )
+
+-- ---- the last rows of both openers
+
+module _ (enc mac id : List ℕ) where
+  -- For code: their end by the rows.
+  pub text-ends : (t out : List ℕ) → EndsExactly (openTextRows enc mac id t) (nameLength t ∷ []) (filled (nameOf enc t) (nameLength t) out) out (openText enc mac id t out)
+  unfolding openTextRows openText
+  text-ends t out = ends-exactly (openTextRows enc mac id t) refl (nameLength t ∷ []) (filled (nameOf enc t) (nameLength t) out) out
+
+  -- Where no row before them applies, an opener ends by them.
+  module _ (keyed : masterKeysRight enc mac ≡ true) (placed : idRight id ≡ true) where
+    pub plain-by-text : (t out : List ℕ) → (not (textRight t) || not (short (length t))) ≡ false → ltb (length out) (nameLength t) ≡ false → openName enc mac id t out ≡ openText enc mac id t out
+    unfolding openName openNameRows openText answer
+    plain-by-text t out text roomy = rw (keyed, placed, text, roomy)
+
+    pub long-by-text : (s t out : List ℕ) → textRight t ≡ true → ltb (length out) (nameLength t) ≡ false → (short (length t) || not (same s (hashName t))) ≡ false
+        → openLongName enc mac id s t out ≡ openText enc mac id t out
+    unfolding openLongName openLongNameRows openText answer
+    long-by-text s t out right roomy pair = rw (keyed, placed, right, roomy, pair)
 
 -- ---- what is written where no row applies
 

@@ -7,16 +7,19 @@ use mathlib.Core.Logic.{_↔_}
 use mathlib.Core.List.{List, [], _∷_}
 use native.Mathlib.Omega.{arith}
 use lib.ListN.{length}
-use lib.Dec.{ltb, leb, lit≤}
+use lib.Dec.{ltb, lit≤}
 use borrow.Author.Tests.{leb-true, leb-false, ltb-true, lt-ltb}
 use Rattle.octets.specs.Bytes.{Below, filled, same}
+use Rattle.octets.specs.Rows.{refused}
 use Rattle.octets.proofs.Bytes.{below-nil, below-cons}
 use Rattle.octets.proofs.Tests.{self, leb-exactly, leb-fails, ltb-fails, both-exactly, not-fails, or-fails, same-exactly}
 use Rattle.octets.proofs.Rows.{Matches, ends-by}
 use Rattle.siv_gcm.proofs.KeySizes.{keys-exactly}
-use Rattle.name_spec.specs.Names.{nameLimit, ascii, idRight, nameRight, path, fullName, fullLength, hashName, short, storedName, textRight, nameLength, nameGood}
-use Rattle.name_spec.specs.Calls.{pathLength, storedLength, writtenLengths, lacksRoom, dirPathRows, dirPath, writeNameRows, writeName, openNameRows, openName, openLongNameRows, openLongName}
-use Rattle.name_spec.specs.Rules.{IdFits, NameSize, TextForm, NameRoom, dirPathRules, writeNameRules, openNameRules, openLongNameRules}
+use Rattle.utf8.specs.ProperText.{ProperText}
+use Rattle.utf8.proofs.ProperText.{proper-text-exactly}
+use Rattle.name_spec.specs.Names.{nameLimit, ascii, idRight, nameRight, path, fullName, fullLength, hashName, short, storedName, textRight, nameLength, nameOf, nameGood}
+use Rattle.name_spec.specs.Calls.{pathLength, storedLength, writtenLengths, lacksRoom, dirPathRows, dirPath, writeNameRows, writeName, openTextRows, openNameRows, openName, openLongNameRows, openLongName}
+use Rattle.name_spec.specs.Rules.{IdFits, NameFits, TextForm, NameRoom, dirPathRules, writeNameRules, openNameRules, openLongNameRules}
 use Rattle.name_spec.specs.Statements.{NameRowsExactly, NamesAscend}
 use Rattle.name_spec.proofs.Texts.{text-of, form}
 use Rattle.name_spec.proofs.Ends.{name-ends-by}
@@ -37,9 +40,9 @@ pub id-exactly : (id : List ℕ) → (idRight id ≡ true) ↔ IdFits id
 unfolding idRight
 id-exactly id = both-exactly (leb-exactly (length id) 36) (ascii-exactly id)
 
-pub name-exactly : (name : List ℕ) → (nameRight name ≡ true) ↔ NameSize name
+pub name-exactly : (name : List ℕ) → (nameRight name ≡ true) ↔ NameFits name
 unfolding nameRight
-name-exactly name = both-exactly (leb-exactly 1 (length name)) (leb-exactly (length name) nameLimit)
+name-exactly name = both-exactly (both-exactly (leb-exactly 1 (length name)) (leb-exactly (length name) nameLimit)) (proper-text-exactly name)
 
 pub text-exactly : (t : List ℕ) → (textRight t ≡ true) ↔ TextForm t
 text-exactly t = (form t, λ f. ap textRight (sym (f .4)) ∙ text-of (f .0) (f .1) (f .2) (f .3))
@@ -72,13 +75,18 @@ module _ (enc mac id : List ℕ) where
     (refl, not-fails (id-exactly id), (refl, not-fails (name-exactly name), (refl, room-exactly storedRoom fullRoom (fullLength (length name)), tt))),
   )
 
+  -- the last rows of both openers
+  last-matches : (t : List ℕ) → Matches (openTextRows enc mac id t) ((nameGood enc mac id t ≡ true, refused 12) ∷ (ProperText (nameOf enc t), refused 3) ∷ [])
+  unfolding openTextRows
+  last-matches t = (refl, not-fails (self (nameGood enc mac id t)), (refl, not-fails (proper-text-exactly (nameOf enc t)), tt))
+
   pub open-matches : (t : List ℕ) (room : ℕ) → Matches (openNameRows enc mac id t room) (openNameRules enc mac id t room)
   unfolding openNameRows
   open-matches t room =
       let text = or-fails (not (textRight t)) (not (short (length t))) (not-fails (text-exactly t)) (not-fails (leb-exactly (length t) 220)) in (
         refl,
         not-fails (keys-exactly enc mac),
-        (refl, not-fails (id-exactly id), (refl, text, (refl, ltb-fails room (nameLength t), (refl, not-fails (self (nameGood enc mac id t)), tt)))),
+        (refl, not-fails (id-exactly id), (refl, text, (refl, ltb-fails room (nameLength t), last-matches t))),
       )
 
   pub open-long-matches : (s t : List ℕ) (room : ℕ) → Matches (openLongNameRows enc mac id s t room) (openLongNameRules enc mac id s t room)
@@ -90,12 +98,12 @@ module _ (enc mac id : List ℕ) where
         (
           refl,
           not-fails (id-exactly id),
-          (refl, not-fails (text-exactly t), (refl, ltb-fails room (nameLength t), (refl, pair, (refl, not-fails (self (nameGood enc mac id t)), tt)))),
+          (refl, not-fails (text-exactly t), (refl, ltb-fails room (nameLength t), (refl, pair, last-matches t))),
         ),
       )
 
   pub name-rows-exactly : NameRowsExactly enc mac id
-  unfolding dirPathRows dirPath writeNameRows writeName openNameRows openName openLongNameRows openLongName
+  unfolding dirPathRows dirPath writeNameRows writeName openTextRows openNameRows openName openLongNameRows openLongName
   name-rows-exactly = (
     λ out. ends-by (dirPathRows enc mac id (length out)) (dirPathRules enc mac id (length out)) (path-matches (length out)) refl (pathLength ∷ []) _ out,
     λ name stored full.

@@ -23,8 +23,8 @@ use Rattle.encoding.proofs.Laws.{encoded-decodes, decoded-was-encoded, encoded-
 use Rattle.encoding.proofs.Quintets.{base32-length}
 use Rattle.name_spec.specs.Names.{nameLimit, ivSize, fullEnd, hashEnd, sealedId, idHash, path, sealedName, fullName, fullLength, hashName, stem, sealedOf, nameLength, textRight, nameOf, nameGood}
 use Rattle.name_spec.specs.Calls.{pathLength, hashLength}
-use Rattle.name_spec.specs.Rules.{TextForm}
-use Rattle.name_spec.specs.Statements.{TextLengths, NameFits}
+use Rattle.name_spec.specs.Rules.{NameSize, TextForm}
+use Rattle.name_spec.specs.Statements.{TextLengths}
 
 -- ---- lengths
 
@@ -126,10 +126,10 @@ module _ (s : List ℕ) (bytes : Bytes s) where
 pub text-lengths : TextLengths
 text-lengths = (λ enc mac id name full. (length-path enc mac id, length-hash full, length-full enc mac id name), text-length)
 
-module _ (enc mac id name : List ℕ) (be : Bytes enc) (bm : Bytes mac) (fits : NameFits name) where
+module _ (enc mac id name : List ℕ) (be : Bytes enc) (bm : Bytes mac) (bytes : Bytes name) where
   sealed-bytes : Bytes (sealedName enc mac id name)
   unfolding sealedName
-  sealed-bytes = keeps-bytes (aes 8 mac) (aes 8 enc) (aes-bytes 8 bm) (aes-bytes 8 be) (id ∷ []) .0 name (fits .bytes)
+  sealed-bytes = keeps-bytes (aes 8 mac) (aes 8 enc) (aes-bytes 8 bm) (aes-bytes 8 be) (id ∷ []) .0 name bytes
 
   pub sealed-of-full : sealedOf (fullName enc mac id name) ≡ sealedName enc mac id name
   unfolding fullName
@@ -139,11 +139,11 @@ module _ (enc mac id name : List ℕ) (be : Bytes enc) (bm : Bytes mac) (fits : 
   unfolding fullName
   full-length = omega (arith, text-length (sealedName enc mac id name) sealed-bytes, length-sealed enc mac id name)
 
-  pub full-right : textRight (fullName enc mac id name) ≡ true
+  pub full-right : NameSize name → textRight (fullName enc mac id name) ≡ true
   unfolding fullName
-  full-right =
+  full-right size =
       let l = length-sealed enc mac id name in
-      text-of (sealedName enc mac id name) sealed-bytes (omega (arith, l, fits .size .0)) (omega (arith, l, fits .size .1))
+      text-of (sealedName enc mac id name) sealed-bytes (omega (arith, l, size .0)) (omega (arith, l, size .1))
 
   pub full-name : nameOf enc (fullName enc mac id name) ≡ name
   unfolding nameOf sealedName
@@ -184,16 +184,15 @@ module _ (t : List ℕ) (right : textRight t ≡ true) where
   pub form : TextForm t
   form = (sealedOf t, sealed-bytes-of, facts .low, facts .high, text-again)
 
--- And where its synthetic IV matches, it is the full name of the name that it opens to.
+-- And where its synthetic IV matches, it is the full name of the bytes that it stands for.
 module _ (enc mac id t : List ℕ) (be : Bytes enc) (right : textRight t ≡ true) where
-  pub name-fits : NameFits (nameOf enc t)
-  unfolding nameOf nameLength
-  name-fits =
-      let l = length-name enc t in
-      record {
-        size = (omega (arith, l, text-facts t right .low), omega (arith, l, text-facts t right .high));
-        bytes = keeps-bytes (aes 8 enc) (aes 8 enc) (aes-bytes 8 be) (aes-bytes 8 be) [] .1 (sealedOf t) (sealed-bytes-of t right);
-      }
+  pub name-size : NameSize (nameOf enc t)
+  unfolding nameLength
+  name-size = let l = length-name enc t in (omega (arith, l, text-facts t right .low), omega (arith, l, text-facts t right .high))
+
+  pub name-bytes : Bytes (nameOf enc t)
+  unfolding nameOf
+  name-bytes = keeps-bytes (aes 8 enc) (aes 8 enc) (aes-bytes 8 be) (aes-bytes 8 be) [] .1 (sealedOf t) (sealed-bytes-of t right)
 
   pub was-full : nameGood enc mac id t ≡ true → fullName enc mac id (nameOf enc t) ≡ t
   unfolding nameGood nameOf fullName sealedName

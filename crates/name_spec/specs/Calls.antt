@@ -8,6 +8,7 @@ use lib.Dec.{ltb}
 use Rattle.octets.specs.Bytes.{filled, same}
 use Rattle.octets.specs.Rows.{Outcome, done, refused, Row, answer, End, ending, leaves}
 use Rattle.siv_gcm.specs.SivGcm.{masterKeysRight}
+use Rattle.utf8.specs.ProperText.{properText}
 use Rattle.name_spec.specs.Names.{idRight, nameRight, path, fullName, fullLength, hashName, short, storedName, textRight, nameLength, nameOf, nameGood}
 
 -- ---- lengths of answers
@@ -62,7 +63,7 @@ module _ (enc mac id : List ℕ) where
   unfoldable pub dirPath : List ℕ → End
   dirPath out = ending (answer (dirPathRows (length out)) (done (pathLength ∷ []))) (filled (path enc mac id) pathLength out) out
 
-  -- writing a name: a key's size (1), the directory ID (2), the size of the name (3), a buffer too short (7)
+  -- writing a name: a key's size (1), the directory ID (2), a name of another size or no proper text (3), a buffer too short (7)
   unfoldable pub writeNameRows : List ℕ → ℕ → ℕ → List Row
   writeNameRows name storedRoom fullRoom =
       (not (masterKeysRight enc mac), refused 1)
@@ -79,22 +80,32 @@ module _ (enc mac id : List ℕ) where
       nameEnding (answer (writeNameRows name (length stored) (length full)) (done (writtenLengths n)))
       (filled (storedName f) (storedLength n) stored) (cond (short n) full (filled f n full)) stored full
 
+  -- the last rows of both openers, for the full name t: the synthetic IV wrong (12), and only then the bytes no proper text (3)
+  unfoldable pub openTextRows : List ℕ → List Row
+  openTextRows t =
+      (not (nameGood enc mac id t), refused 12)
+      ∷ (not (properText (nameOf enc t)), refused 3)
+      ∷ []
+
+  -- For the code: how either opener ends where none of its rows before these applies.
+  unfoldable pub openText : List ℕ → List ℕ → End
+  openText t out = ending (answer (openTextRows t) (done (nameLength t ∷ []))) (filled (nameOf enc t) (nameLength t) out) out
+
   -- opening the text t as a name that is stored as it is: a key's size (1), the directory ID (2), the text form broken or more than 220
-  -- characters (5), the buffer too short (7), the synthetic IV wrong (12)
+  -- characters (5), the buffer too short (7), and the last rows of both openers
   unfoldable pub openNameRows : List ℕ → ℕ → List Row
   openNameRows t room =
       (not (masterKeysRight enc mac), refused 1)
       ∷ (not (idRight id), refused 2)
       ∷ (not (textRight t) || not (short (length t)), refused 5)
       ∷ (ltb room (nameLength t), refused 7)
-      ∷ (not (nameGood enc mac id t), refused 12)
-      ∷ []
+      ∷ openTextRows t
 
   unfoldable pub openName : List ℕ → List ℕ → End
   openName t out = ending (answer (openNameRows t (length out)) (done (nameLength t ∷ []))) (filled (nameOf enc t) (nameLength t) out) out
 
   -- opening a stored name s with its full name t: a key's size (1), the directory ID (2), the full name's text form broken (5), the buffer too
-  -- short (7), the full name of 220 or fewer characters or s not its hash name (11), the synthetic IV wrong (12)
+  -- short (7), the full name of 220 or fewer characters or s not its hash name (11), and the last rows of both openers
   unfoldable pub openLongNameRows : List ℕ → List ℕ → ℕ → List Row
   openLongNameRows s t room =
       (not (masterKeysRight enc mac), refused 1)
@@ -102,8 +113,7 @@ module _ (enc mac id : List ℕ) where
       ∷ (not (textRight t), refused 5)
       ∷ (ltb room (nameLength t), refused 7)
       ∷ (short (length t) || not (same s (hashName t)), refused 11)
-      ∷ (not (nameGood enc mac id t), refused 12)
-      ∷ []
+      ∷ openTextRows t
 
   unfoldable pub openLongName : List ℕ → List ℕ → List ℕ → End
   openLongName s t out =

@@ -7,6 +7,7 @@ use mathlib.Core.List.{List, [], _∷_, _++_}
 use lib.ListN.{length, take, drop}
 use lib.Dec.{ltb, leb}
 use Rattle.octets.specs.Bytes.{same}
+use Rattle.utf8.specs.ProperText.{properText}
 use Rattle.aes_spec.specs.Cipher.{aes}
 use Rattle.siv.specs.Siv as siv
 use Rattle.sha1.specs.Message.{sha1}
@@ -42,9 +43,9 @@ ascii (a ∷ s) = ltb a 128 && ascii s
 unfoldable pub idRight : List ℕ → Bool
 idRight id = leb (length id) idLimit && ascii id
 
--- A name has 1 to 1,020 bytes.
+-- A name has 1 to 1,020 bytes, and is proper text: well-formed UTF-8, with no zero byte and no '/'.
 unfoldable pub nameRight : List ℕ → Bool
-nameRight name = leb 1 (length name) && leb (length name) nameLimit
+nameRight name = leb 1 (length name) && leb (length name) nameLimit && properText name
 
 -- ---- fixed parts of texts
 
@@ -127,7 +128,7 @@ textRight t =
     && leb (1 + ivSize) (length (sealedOf t))
     && leb (length (sealedOf t)) (nameLimit + ivSize)
 
--- The name that a text in this form stands for; it counts only where the synthetic IV matches.
+-- The bytes that a text in this form stands for; they count only where the synthetic IV matches, and are a name only where they are proper text.
 unfoldable pub nameOf : List ℕ → List ℕ → List ℕ
 nameOf enc t = siv.plain (aes 8 enc) (sealedOf t)
 

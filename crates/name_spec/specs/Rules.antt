@@ -1,5 +1,5 @@
 -- What each row of each call asks for, in words of sizes, limits and bytes, with the format's numbers; row 12 asks for the synthetic IV, as
--- `nameGood` tests it. `Statements` says that the calls go by these rules.
+-- `nameGood` tests it, and row 3 of the openers looks at the bytes of `nameOf`. `Statements` says that the calls go by these rules.
 -- Assumes nothing.
 use mathlib.Core.Path.{_≡_}
 use mathlib.Core.Bool.{true}
@@ -9,8 +9,9 @@ use lib.ListN.{length}
 use Rattle.octets.specs.Bytes.{Below, Bytes}
 use Rattle.octets.specs.Rows.{refused, Rule}
 use Rattle.encoding.specs.Base64url as base64url
+use Rattle.utf8.specs.ProperText.{ProperText}
 use Rattle.frame.specs.Rules.{KeySizes}
-use Rattle.name_spec.specs.Names.{fullEnd, fullLength, hashName, nameLength, nameGood}
+use Rattle.name_spec.specs.Names.{fullEnd, fullLength, hashName, nameLength, nameOf, nameGood}
 
 -- A directory ID: at most 36 bytes, each below 128.
 abbrev pub IdFits : List ℕ → Type 0
@@ -19,6 +20,10 @@ IdFits id = (length id ≤ 36) × Below 128 id
 -- The size of a name: 1 to 1,020 bytes.
 abbrev pub NameSize : List ℕ → Type 0
 NameSize name = (1 ≤ length name) × (length name ≤ 1020)
+
+-- A name: its size, and that it is the UTF-8 encoding of some scalar values, with no zero byte and no '/'.
+abbrev pub NameFits : List ℕ → Type 0
+NameFits name = NameSize name × ProperText name
 
 -- The text form of a full name: base64url with padding of 17 to 1,036 bytes, and its end.
 abbrev pub TextForm : List ℕ → Type 0
@@ -43,7 +48,7 @@ module _ (enc mac id : List ℕ) where
   writeNameRules name storedRoom fullRoom =
       (KeySizes enc mac, refused 1)
       ∷ (IdFits id, refused 2)
-      ∷ (NameSize name, refused 3)
+      ∷ (NameFits name, refused 3)
       ∷ (NameRoom storedRoom fullRoom (fullLength (length name)), refused 7)
       ∷ []
 
@@ -55,6 +60,7 @@ module _ (enc mac id : List ℕ) where
       ∷ (TextForm t × (length t ≤ 220), refused 5)
       ∷ (nameLength t ≤ room, refused 7)
       ∷ (nameGood enc mac id t ≡ true, refused 12)
+      ∷ (ProperText (nameOf enc t), refused 3)
       ∷ []
 
   -- opening the stored name s with the full name t
@@ -66,4 +72,5 @@ module _ (enc mac id : List ℕ) where
       ∷ (nameLength t ≤ room, refused 7)
       ∷ ((220 < length t) × (s ≡ hashName t), refused 11)
       ∷ (nameGood enc mac id t ≡ true, refused 12)
+      ∷ (ProperText (nameOf enc t), refused 3)
       ∷ []

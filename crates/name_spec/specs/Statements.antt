@@ -1,25 +1,21 @@
 -- What the theorems say of names and directory paths. `proofs/` proves each under its name.
 -- Assumes nothing.
 use mathlib.Core.Path.{_≡_}
-use mathlib.Core.Bool.{true, false, cond}
+use mathlib.Core.Bool.{Bool, true, false, cond}
 use mathlib.Core.Logic.{_↔_}
 use mathlib.Core.List.{List, [], _∷_, _++_}
 use Prim.Native.Nat.{ℕ, _-_, _≤_, _<_}
-use lib.ListN.{length}
+use lib.ListN.{length, replicate}
 use Rattle.octets.specs.Bytes.{Bytes, filled, same}
-use Rattle.octets.specs.Rows.{done, refused, Rule, Exactly, EndsBy, Ascending, ended, Succeeded}
+use Rattle.octets.specs.Rows.{done, refused, Rule, Exactly, EndsBy, numbers, End, ended, Succeeded}
 use Rattle.aes_spec.specs.Cipher.{aes}
 use Rattle.siv.specs.Siv.{s2v}
 use Rattle.encoding.specs.Base64url as base64url
+use Rattle.utf8.specs.ProperText.{ProperText}
 use Rattle.frame.specs.Rules.{KeySizes}
 use Rattle.name_spec.specs.Names.{fullEnd, path, fullName, fullLength, hashName, short, storedName, nameLength, nameOf}
 use Rattle.name_spec.specs.Calls.{pathLength, storedLength, writtenLengths, NameEnd, nameEnded, dirPath, writeName, openName, openLongName}
-use Rattle.name_spec.specs.Rules.{IdFits, NameSize, TextForm, NameRoom, dirPathRules, writeNameRules, openNameRules, openLongNameRules}
-
--- A name of 1 to 1,020 bytes.
-pub record NameFits (name : List ℕ) : Type 0 where
-  pub size : NameSize name
-  pub bytes : Bytes name
+use Rattle.name_spec.specs.Rules.{IdFits, NameSize, NameFits, TextForm, NameRoom, dirPathRules, writeNameRules, openNameRules, openLongNameRules}
 
 -- Two master keys of 32 bytes, and a directory ID of at most 36 bytes, each below 128.
 pub record Directory (enc mac id : List ℕ) : Type 0 where
@@ -27,6 +23,17 @@ pub record Directory (enc mac id : List ℕ) : Type 0 where
   pub id-fits : IdFits id
   pub enc-bytes : Bytes enc
   pub mac-bytes : Bytes mac
+
+-- Bytes of the size of a name that are not proper text.
+abbrev pub NotText : List ℕ → Type 0
+NotText name = NameSize name × Bytes name × (ProperText name → ⊥)
+
+-- How the end e of an opener goes by whether the synthetic IV matches, and by whether the bytes are proper text.
+abbrev pub MovesTo : Bool → List ℕ → List ℕ → End → Type 0
+MovesTo matches name out e =
+    ((e ≡ ended (refused 12) out) ↔ (matches ≡ false))
+    × ((e ≡ ended (refused 3) out) ↔ ((matches ≡ true) × (ProperText name → ⊥)))
+    × ((e ≡ ended (done (length name ∷ [])) (filled name (length name) out)) ↔ ((matches ≡ true) × ProperText name))
 
 -- A call with two buffers goes by rules, as `EndsBy` says it of one.
 abbrev pub NameEndsBy : List Rule → List ℕ → List ℕ → List ℕ → List ℕ → List ℕ → NameEnd → Type 0
@@ -43,12 +50,13 @@ TextLengths =
     × (length (fullName enc mac id name) ≡ fullLength (length name)))
     × ((s : List ℕ) → Bytes s → nameLength (base64url.encode true s ++ fullEnd) ≡ length s - 16)
 
--- The longest full name has 1,388 characters: no name has a longer one, 1,020 bytes are a name and have as long a one, and no text in the text form is
--- longer. Any keys and directory ID.
+-- The longest full name has 1,388 characters: no name has a longer one, 1,020 bytes of proper text are a name and have as long a one, n times the
+-- letter a is a name exactly for n from 1 to 1,020, and no text in the text form is longer. Any keys and directory ID.
 abbrev pub LongestNames : Type 0
 LongestNames =
     ((enc mac id name : List ℕ) → NameSize name → length (fullName enc mac id name) ≤ 1388)
-    × ((enc mac id name : List ℕ) → length name ≡ 1020 → NameSize name × (length (fullName enc mac id name) ≡ 1388))
+    × ((enc mac id name : List ℕ) → length name ≡ 1020 → ProperText name → NameFits name × (length (fullName enc mac id name) ≡ 1388))
+    × ((n : ℕ) → NameFits (replicate n 0x61) ↔ ((1 ≤ n) × (n ≤ 1020)))
     × ((t : List ℕ) → TextForm t → length t ≤ 1388)
 
 module _ (enc mac id : List ℕ) where
@@ -66,13 +74,14 @@ module _ (enc mac id : List ℕ) where
       × ((s t out : List ℕ)
       → EndsBy (openLongNameRules enc mac id s t (length out)) (nameLength t ∷ []) (filled (nameOf enc t) (nameLength t) out) out (openLongName enc mac id s t out))
 
-  -- The numbers of the rules ascend, so that with `NameRowsExactly` the lowest of the rows that apply is given.
+  -- The numbers of the rules, in the order in which they are tried. They ascend, so that with `NameRowsExactly` the lowest of the rows that apply is given;
+  -- except in the two openers, where row 3 comes last, behind row 12, since the bytes count only where the synthetic IV matches.
   abbrev pub NamesAscend : Type 0
   NamesAscend =
-      ((room : ℕ) → Ascending (dirPathRules enc mac id room))
-      × ((name : List ℕ) (storedRoom fullRoom : ℕ) → Ascending (writeNameRules enc mac id name storedRoom fullRoom))
-      × ((t : List ℕ) (room : ℕ) → Ascending (openNameRules enc mac id t room))
-      × ((s t : List ℕ) (room : ℕ) → Ascending (openLongNameRules enc mac id s t room))
+      ((room : ℕ) → numbers (dirPathRules enc mac id room) ≡ 1 ∷ 2 ∷ 7 ∷ [])
+      × ((name : List ℕ) (storedRoom fullRoom : ℕ) → numbers (writeNameRules enc mac id name storedRoom fullRoom) ≡ 1 ∷ 2 ∷ 3 ∷ 7 ∷ [])
+      × ((t : List ℕ) (room : ℕ) → numbers (openNameRules enc mac id t room) ≡ 1 ∷ 2 ∷ 5 ∷ 7 ∷ 12 ∷ 3 ∷ [])
+      × ((s t : List ℕ) (room : ℕ) → numbers (openLongNameRules enc mac id s t room) ≡ 1 ∷ 2 ∷ 5 ∷ 7 ∷ 11 ∷ 12 ∷ 3 ∷ [])
 
   -- The path is written exactly when the keys and the directory ID fit and there is room; and then its characters are those of `path`.
   abbrev pub PathWritesExactly : Type 0
@@ -81,10 +90,10 @@ module _ (enc mac id : List ℕ) where
       → (Succeeded (dirPath enc mac id out) ↔ (KeySizes enc mac × IdFits id × (36 ≤ length out)))
       × (KeySizes enc mac → IdFits id → 36 ≤ length out → dirPath enc mac id out ≡ ended (done (length (path enc mac id) ∷ [])) (filled (path enc mac id) (length (path enc mac id)) out))
 
-  -- A name, a byte string, is written exactly when the keys, the directory ID and the name fit and there is room.
+  -- A name is written exactly when the keys, the directory ID and the name fit and there is room.
   abbrev pub NameWritesExactly : Type 0
   NameWritesExactly =
-      (name stored full : List ℕ) → Bytes name
+      (name stored full : List ℕ)
       → ((lengths : List ℕ) × (writeName enc mac id name stored full .outcome ≡ done lengths))
       ↔ (KeySizes enc mac × IdFits id × NameFits name × NameRoom (length stored) (length full) (length (fullName enc mac id name)))
 
@@ -121,19 +130,26 @@ module _ (enc mac id : List ℕ) where
       × ((name : List ℕ) → NameFits name → fullName enc mac id name ≡ t → 220 < length t → s ≡ hashName t
       → openLongName enc mac id s t out ≡ ended (done (length name ∷ [])) (filled name (length name) out))
 
-  -- A name moved here from the directory `from`: it is refused exactly when its synthetic IV here is another than there, and opens to the same
-  -- name otherwise.
+  -- An opener gives row 3, and writes nothing, exactly when the text is the full name in this directory of 1 to 1,020 bytes that are not proper text, and there is
+  -- room for them; with at most 220 characters by itself, with more beside its hash name.
+  abbrev pub NotTextExactly : Type 0
+  NotTextExactly =
+      ((t out : List ℕ) → Directory enc mac id
+      → (openName enc mac id t out ≡ ended (refused 3) out)
+      ↔ ((name : List ℕ) × NotText name × (fullName enc mac id name ≡ t) × (length t ≤ 220) × (length name ≤ length out)))
+      × ((s t out : List ℕ) → Directory enc mac id
+      → (openLongName enc mac id s t out ≡ ended (refused 3) out)
+      ↔ ((name : List ℕ) × NotText name × (fullName enc mac id name ≡ t) × (220 < length t) × (length name ≤ length out) × (s ≡ hashName t)))
+
+  -- A byte string of 1 to 1,020 bytes has a full name in the directory `from`, with any ID. Moved here, that text is refused with 12 exactly when its synthetic
+  -- IV here is another than there; otherwise it opens to the same bytes where they are proper text, and gets row 3 where they are not.
   abbrev pub MovedNameExactly : Type 0
   MovedNameExactly =
-      (from name out : List ℕ) → Directory enc mac id → NameFits name → length name ≤ length out →
+      (from name out : List ℕ) → Directory enc mac id → NameSize name → Bytes name → length name ≤ length out →
       let f = fullName enc mac from name in
       let matches = same (s2v (aes 8 mac) (id ∷ name ∷ [])) (s2v (aes 8 mac) (from ∷ name ∷ [])) in
-      let opened = ended (done (length name ∷ [])) (filled name (length name) out) in
-      (length f ≤ 220
-      → ((openName enc mac id f out ≡ ended (refused 12) out) ↔ (matches ≡ false)) × ((openName enc mac id f out ≡ opened) ↔ (matches ≡ true)))
-      × (220 < length f
-      → ((openLongName enc mac id (hashName f) f out ≡ ended (refused 12) out) ↔ (matches ≡ false))
-      × ((openLongName enc mac id (hashName f) f out ≡ opened) ↔ (matches ≡ true)))
+      (length f ≤ 220 → MovesTo matches name out (openName enc mac id f out))
+      × (220 < length f → MovesTo matches name out (openLongName enc mac id (hashName f) f out))
 
   -- Buffers of at least 220 and 1,388 bytes have room for whatever is written of a name, and one of at least 1,020 bytes for whatever is
   -- opened: row 7 is not given. Any keys, directory ID, name and texts.
@@ -143,22 +159,22 @@ module _ (enc mac id : List ℕ) where
       × ((t out : List ℕ) → 1020 ≤ length out → openName enc mac id t out .outcome ≡ refused 7 → ⊥)
       × ((s t out : List ℕ) → 1020 ≤ length out → openLongName enc mac id s t out .outcome ≡ refused 7 → ⊥)
 
--- A full name is that of one name only, whatever the directory.
+-- A full name is that of one byte string only, whatever the directory; so it is not that of a name and of other bytes too.
 abbrev pub OneName : Type 0
 OneName =
-    (enc mac id other a b : List ℕ) → Bytes enc → Bytes mac → NameFits a → NameFits b → fullName enc mac id a ≡ fullName enc mac other b → a ≡ b
+    (enc mac id other a b : List ℕ) → Bytes enc → Bytes mac → Bytes a → Bytes b → fullName enc mac id a ≡ fullName enc mac other b → a ≡ b
 
 -- Demand 1, of the calls on names and directory paths.
 abbrev pub NameDemandOne : Type 0
 NameDemandOne = (enc mac id : List ℕ) → NameRowsExactly enc mac id × NamesAscend enc mac id
 
--- Demand 2, of names and directory paths: they are written exactly where they fit, reading gives back what was written, and nothing else is read.
--- And the longest names, with the room that is enough for any.
+-- Demand 2, of names and directory paths: they are written exactly where they fit, reading gives back what was written, and nothing else is read:
+-- a text that stands for other bytes than a name is told by row 3. And the longest names, with the room that is enough for any.
 abbrev pub NameDemandTwo : Type 0
 NameDemandTwo =
     ((enc mac id : List ℕ)
     → PathWritesExactly enc mac id × NameWritesExactly enc mac id
-    × NameWrittenOpens enc mac id × NameOpensExactly enc mac id × LongNameOpensExactly enc mac id × MovedNameExactly enc mac id
+    × NameWrittenOpens enc mac id × NameOpensExactly enc mac id × LongNameOpensExactly enc mac id × NotTextExactly enc mac id × MovedNameExactly enc mac id
     × RoomForAny enc mac id)
     × OneName
     × TextLengths

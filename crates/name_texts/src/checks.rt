@@ -2,6 +2,7 @@
 use encoding::base64url;
 use encoding::base64url::Measure;
 use octets::slice::equal;
+use utf8::proper_text;
 ghost use mathlib.Core.Path.{_≡_};
 ghost use mathlib.Core.Bool.{cond};
 ghost use Rattle.name_spec.specs.Names as spec;
@@ -44,7 +45,10 @@ pub fn name_right(name: &[u8]) -> bool
     if name.len() < 1 {
         return false;
     }
-    name.len() <= NAME_LIMIT
+    if NAME_LIMIT < name.len() {
+        return false;
+    }
+    proper_text(name)
 }
 
 // Is a full name of n characters stored as it is?

@@ -2,18 +2,23 @@
 use crate::checks::NAME_LIMIT;
 use crate::keyed::open_under;
 use crate::keyed::seal_under;
+use answer::Answer;
+use answer::Refusal;
 use encoding::base64url;
 use octets::slice::copy_at;
 use octets::slice::equal;
 use sha1::digest;
+use utf8::proper_text;
 ghost use mathlib.Core.Path.{_≡_};
-ghost use mathlib.Core.Bool.{true, cond};
+ghost use mathlib.Core.Bool.{true};
 ghost use Prim.Native.Nat.{_≤_};
 ghost use lib.ListN.{length};
-ghost use Rattle.octets.specs.Bytes.{placed, filled, same};
+ghost use Rattle.octets.specs.Bytes.{placed, same};
+ghost use Rattle.octets.specs.Rows.{ended};
 ghost use Rattle.siv_gcm.specs.SivGcm.{masterKeysRight};
 ghost use Rattle.name_spec.specs.Names as spec;
-ghost use Rattle.name_spec.specs.Calls.{hashLength};
+ghost use Rattle.answer.specs.Meaning.{meaning};
+ghost use Rattle.name_spec.specs.Calls.{hashLength, openText};
 
 // How many characters the full name of a name of n bytes has.
 pub fn full_length(n: usize) -> usize
@@ -54,12 +59,12 @@ pub fn is_hash(stored: &[u8], full: &[u8]) -> bool
     equal(stored, &hash)
 }
 
-// Opens a text in the form of a full name, of a name of n bytes. The name goes to the front of out only where the synthetic IV matches.
-pub fn open_text(enc: &[u8], mac: &[u8], id: &[u8], text: &[u8], n: usize, out: &mut [u8]) -> bool
+// Opens a text in the form of a full name, of a name of n bytes. The name goes to the front of out only where the synthetic IV matches and it is proper
+// text. Rows 12, 3.
+pub fn open_text(enc: &[u8], mac: &[u8], id: &[u8], text: &[u8], n: usize, out: &mut [u8]) -> Answer
     requires { ⌜ masterKeysRight (now enc) (now mac) ≡ true ⌝ }
     requires { ⌜ (spec.textRight (now text) ≡ true) × (n ≡ spec.nameLength (now text)) × (n ≤ length (now out)) ⌝ }
-    ensures { λ r. ⌜ r ≡ spec.nameGood (now (enc .entry)) (now (mac .entry)) (now (id .entry)) (now (text .entry)) ⌝ }
-    ensures { λ r. ⌜ now (out .exit) ≡ cond r (filled (spec.nameOf (now (enc .entry)) (now (text .entry))) (spec.nameLength (now (text .entry))) (now (out .entry))) (now (out .entry)) ⌝ }
+    ensures { λ r. ⌜ ended (meaning r) (now (out .exit)) ≡ openText (now (enc .entry)) (now (mac .entry)) (now (id .entry)) (now (text .entry)) (now (out .entry)) ⌝ }
 {
     let k = text.len() - 4;
     let mut sealed = [0u8; NAME_LIMIT + 16];
@@ -67,8 +72,11 @@ pub fn open_text(enc: &[u8], mac: &[u8], id: &[u8], text: &[u8], n: usize, out: 
     let m = n + 16;
     let mut name = [0u8; NAME_LIMIT];
     if !open_under(enc, mac, id, &sealed[..m], &mut name) {
-        return false;
+        return Answer::Refused(Refusal::SyntheticIv);
+    }
+    if !proper_text(&name[..n]) {
+        return Answer::Refused(Refusal::Name);
     }
     copy_at(&name[..n], out, 0);
-    true
+    Answer::Done(n)
 }

@@ -12,7 +12,7 @@ ghost use Rattle.octets.specs.Rows.{ended};
 ghost use Rattle.answer.specs.Meaning.{meaning};
 ghost use Rattle.name_spec.specs.Calls.{openName, openLongName};
 
-/// Opens a full name of at most 220 characters, which is stored unshortened, in the directory with this ID. Rows 1, 2, 5, 7, 12.
+/// Opens a full name of at most 220 characters, which is stored unshortened, in the directory with this ID. Rows 1, 2, 5, 7, 12, 3.
 pub fn open_name(enc: &[u8], mac: &[u8], dir_id: &[u8], stored: &[u8], out: &mut [u8]) -> Answer
     ensures { λ r. ⌜ ended (meaning r) (now (out .exit)) ≡ openName (now (enc .entry)) (now (mac .entry)) (now («dir_id» .entry)) (now (stored .entry)) (now (out .entry)) ⌝ }
 {
@@ -32,13 +32,10 @@ pub fn open_name(enc: &[u8], mac: &[u8], dir_id: &[u8], stored: &[u8], out: &mut
     if out.len() < n {
         return Answer::Refused(Refusal::Room);
     }
-    if !open_text(enc, mac, dir_id, stored, n, out) {
-        return Answer::Refused(Refusal::SyntheticIv);
-    }
-    Answer::Done(n)
+    open_text(enc, mac, dir_id, stored, n, out)
 }
 
-/// Opens a shortened name from its hash name, as stored, and its full name, in the directory with this ID. Rows 1, 2, 5, 7, 11, 12.
+/// Opens a shortened name from its hash name, as stored, and its full name, in the directory with this ID. Rows 1, 2, 5, 7, 11, 12, 3.
 pub fn open_long_name(
     enc: &[u8],
     mac: &[u8],
@@ -68,8 +65,5 @@ pub fn open_long_name(
     if !is_hash(stored, full) {
         return Answer::Refused(Refusal::HashName);
     }
-    if !open_text(enc, mac, dir_id, full, n, out) {
-        return Answer::Refused(Refusal::SyntheticIv);
-    }
-    Answer::Done(n)
+    open_text(enc, mac, dir_id, full, n, out)
 }

@@ -31,7 +31,7 @@ pub fn write_name(
         return NameAnswer::Refused(Refusal::DirectoryId);
     }
     if !name_right(name) {
-        return NameAnswer::Refused(Refusal::NameSize);
+        return NameAnswer::Refused(Refusal::Name);
     }
     let n = full_length(name.len());
     if short(n) {

@@ -80,6 +80,11 @@ above n (r ∷ rules) = ltb n (number (r .1)) && above (number (r .1)) rules
 abbrev pub Ascending : List Rule → Type 0
 Ascending rules = above 0 rules ≡ true
 
+-- The numbers of the rules, in the order in which they are tried.
+abbrev pub numbers : List Rule → List ℕ
+numbers [] = []
+numbers (r ∷ rules) = number (r .1) ∷ numbers rules
+
 -- ---- for proofs: a call by its own list of rows
 
 -- The row at place k of the list, from 0, applies, and none before it does.

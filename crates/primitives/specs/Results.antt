@@ -79,3 +79,7 @@ unfoldable pub base64urlText : List ℕ → ℕ → List ℕ → End
 base64urlText bytes padded d =
     doneIf (leb (length bytes) (2 ^ 32) && leb (base64url.encodedLength (isSet padded) (length bytes)) (length d))
     (base64url.encode (isSet padded) bytes) d
+
+-- The status that tells how a test ended.
+abbrev pub told : Bool → ℕ
+told test = cond test 1 0

@@ -1,9 +1,11 @@
-// Base32 and base64url.
+// Base32, base64url and proper text.
 use encoding::base32;
 use encoding::base64url;
 use encoding::base64url::Measure;
+use utf8::proper_text;
 ghost use mathlib.Core.Path.{_≡_};
-ghost use Rattle.primitives.specs.Results.{end, base32Text, base64urlText};
+ghost use Rattle.utf8.specs.ProperText.{properText};
+ghost use Rattle.primitives.specs.Results.{end, base32Text, base64urlText, told};
 ghost use Rattle.primitives.specs.Decoding.{decodeEnd, base64urlBytes};
 
 // The 32 characters of 20 bytes.
@@ -57,4 +59,15 @@ pub extern "C" fn primitives_base64url_decode(
             1
         }
     }
+}
+
+// Is it proper text?
+#[no_mangle]
+pub extern "C" fn primitives_proper_text(text: &[u8]) -> u32
+    ensures { λ r. ⌜ r ≡ told (properText (now (text .entry))) ⌝ }
+{
+    if proper_text(text) {
+        return 1;
+    }
+    0
 }

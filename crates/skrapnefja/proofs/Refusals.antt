@@ -9,7 +9,7 @@ use Rattle.octets.specs.Rows.{number}
 use Rattle.answer.specs.Meaning.{row, meaning, withReserved}
 use Rattle.answer.proofs.Refusal.{the-type}
 use Rattle.answer.specs.declared.Refusal.{Refusal}
-use Rattle.answer.specs.declared.Refusal.the-variants.{KeyOrNonceSize, DirectoryId, NameSize, Length, Text, Range, Room, RepeatedNonce, Header, Chunk, HashName, SyntheticIv}
+use Rattle.answer.specs.declared.Refusal.the-variants.{KeyOrNonceSize, DirectoryId, Name, Length, Text, Range, Room, RepeatedNonce, Header, Chunk, HashName, SyntheticIv}
 use Rattle.answer.specs.declared.Answer.{Answer}
 use Rattle.answer.specs.declared.Answer.the-variants.{Done, Refused}
 use Rattle.skrapnefja.specs.Results.{writtenAfter, fullLengthAfter, reservedAfter, atAfter}
@@ -18,7 +18,7 @@ use Rattle.skrapnefja.specs.Results.{writtenAfter, fullLengthAfter, rese
 pub keeps-lengths : (x : Refusal) (n : ℕ) → (writtenAfter (row x) n ≡ n) × (fullLengthAfter (row x) n ≡ n) × (reservedAfter (row x) n ≡ n)
 keeps-lengths KeyOrNonceSize n = (refl, refl, refl)
 keeps-lengths DirectoryId n = (refl, refl, refl)
-keeps-lengths NameSize n = (refl, refl, refl)
+keeps-lengths Name n = (refl, refl, refl)
 keeps-lengths Length n = (refl, refl, refl)
 keeps-lengths Text n = (refl, refl, refl)
 keeps-lengths Range n = (refl, refl, refl)
@@ -33,7 +33,7 @@ keeps-lengths SyntheticIv n = (refl, refl, refl)
 pub keeps-at : (x : Refusal) (a : ℕ) → OneOf (0 ∷ 1 ∷ 2 ∷ 3 ∷ 4 ∷ 5 ∷ 6 ∷ 7 ∷ 8 ∷ 10 ∷ 11 ∷ []) (tagOf the-type x) → atAfter (row x) a ≡ a
 keeps-at KeyOrNonceSize a k = refl
 keeps-at DirectoryId a k = refl
-keeps-at NameSize a k = refl
+keeps-at Name a k = refl
 keeps-at Length a k = refl
 keeps-at Text a k = refl
 keeps-at Range a k = refl

@@ -21,6 +21,7 @@ use primitives::deterministic::primitives_siv_seal;
 use primitives::hash::primitives_sha1;
 use primitives::text::primitives_base32;
 use primitives::text::primitives_base64url_encode;
+use primitives::text::primitives_proper_text;
 
 // The bytes in hex, on a line.
 fn print(bytes: &[u8]) {
@@ -107,6 +108,23 @@ fn text() {
     let mut base64url = [0u8; 8];
     primitives_base64url_encode(b"fooba", 1, &mut base64url);
     line(&base64url);
+}
+
+// Whether a text is proper, as a digit.
+fn told(text: &[u8]) {
+    io::print_hex(STDOUT_FILENO, primitives_proper_text(text) as u64, 1);
+}
+
+// The examples of RFC 3629: four texts, and three that are not well formed.
+fn utf8() {
+    told(b"\x41\xe2\x89\xa2\xce\x91\x2e");
+    told(b"\xed\x95\x9c\xea\xb5\xad\xec\x96\xb4");
+    told(b"\xe6\x97\xa5\xe6\x9c\xac\xe8\xaa\x9e");
+    told(b"\xef\xbb\xbf\xf0\xa3\x8e\xb4");
+    told(b"\xc0\x80");
+    told(b"\xed\xa1\x8c\xed\xbe\xb4");
+    told(b"\x2f\xc0\xae\x2e\x2f");
+    io::write_all(STDOUT_FILENO, b"\n");
 }
 
 // The stock program's header, under keys and a nonce of zeros.
@@ -268,6 +286,7 @@ fn main() {
     siv();
     sha1();
     text();
+    utf8();
     stock_header();
     stock_chunk();
     stock_file();

@@ -1,6 +1,7 @@
 //! Inputs that are timed.
 
 use crate::random::Random;
+use crate::text::random_character;
 use second::vault::{self, CHUNK_LEN, MAX_CLEARTEXT_LEN};
 use std::ops::RangeInclusive;
 
@@ -42,13 +43,30 @@ pub fn places(number: usize, len: usize) -> Vec<u64> {
     (0..number).map(|_| random.below(end + 1) as u64).collect()
 }
 
-/// Names of any of these lengths.
+/// Names of any of these lengths, each in one alphabet.
 pub fn names(number: usize, lengths: RangeInclusive<usize>) -> Vec<Vec<u8>> {
     let mut random = Random::new(3);
     (0..number)
         .map(|_| {
             let len = lengths.start() + random.below(lengths.end() - lengths.start() + 1);
-            random.bytes(len)
+            name(&mut random, len)
         })
         .collect()
+}
+
+/// Letters of one alphabet, those that differ from some character in the last
+/// six bits only; where none fits any more, other letters of one byte.
+fn name(random: &mut Random, len: usize) -> Vec<u8> {
+    let width = 1 + random.below(4);
+    let first = u32::from(random_character(random, width)) & !0x3f;
+    let mut name = String::new();
+    while name.len() < len {
+        let letter = char::from_u32(first + random.below(64) as u32);
+        match letter.filter(|letter| !matches!(letter, '\0' | '/')) {
+            Some(letter) if name.len() + width <= len => name.push(letter),
+            Some(_) => name.push(random_character(random, 1)),
+            None => {}
+        }
+    }
+    name.into_bytes()
 }

@@ -11,6 +11,9 @@ mod primitives;
 mod random;
 #[path = "../../tests/stack/measure.rs"]
 mod stack;
+#[expect(dead_code, reason = "names are timed in one alphabet each")]
+#[path = "../../tests/common/text.rs"]
+mod text;
 mod time;
 mod vault;
 

@@ -7,6 +7,7 @@ use super::text::{
 };
 use super::Refusal;
 use crate::siv::{self, IV_LEN};
+use crate::utf8;
 
 /// The lengths of a written name.
 #[derive(Clone, Copy, Debug, PartialEq, Eq)]
@@ -29,7 +30,8 @@ pub fn write_name(
 ) -> Result<WrittenName, Refusal> {
     let keys = MasterKeys::new(enc, mac)?;
     check_id(dir_id)?;
-    Refusal::NameSize.unless((1..=MAX_NAME_LEN).contains(&name.len()))?;
+    Refusal::Name.unless((1..=MAX_NAME_LEN).contains(&name.len()))?;
+    Refusal::Name.unless(utf8::is_proper(name))?;
     let length = full_len(name.len());
     let plain = length <= MAX_PLAIN_LEN;
     if plain {
@@ -82,10 +84,11 @@ pub fn open_long_name(
     open(&keys, dir_id, &sealed, out)
 }
 
-/// Row 12.
+/// Rows 12 and 3, in this order.
 fn open(keys: &MasterKeys, dir_id: &[u8], sealed: &[u8], out: &mut [u8]) -> Result<usize, Refusal> {
-    let name = siv::open(keys.mac, keys.enc, &[dir_id], sealed);
-    Ok(put(out, &name.ok_or(Refusal::SyntheticIv)?))
+    let name = siv::open(keys.mac, keys.enc, &[dir_id], sealed).ok_or(Refusal::SyntheticIv)?;
+    Refusal::Name.unless(utf8::is_proper(&name))?;
+    Ok(put(out, &name))
 }
 
 #[cfg(test)]
@@ -98,7 +101,7 @@ mod tests {
     #[test]
     fn written_names_open() {
         for len in 1..=MAX_NAME_LEN {
-            let name: Vec<_> = (0..len).map(|i| i as u8).collect();
+            let name: Vec<_> = (0..len).map(|i| b'0' + i as u8 % 75).collect();
             let (mut stored, mut full, mut out) = ([0; 220], [0; 1388], [0; MAX_NAME_LEN]);
             let written = write_name(&ENC, &MAC, b"id", &name, &mut stored, &mut full);
             let opened = match written {
@@ -118,6 +121,22 @@ mod tests {
                 Err(refusal) => panic!("{refusal:?}"),
             };
             assert_eq!((opened, &out[..len]), (Ok(len), &name[..]));
+        }
+    }
+
+    #[test]
+    fn not_text() {
+        for name in [&b"\xff"[..], b"a/b", b"\0", b"caf\xc3"] {
+            let mut stored = [7; 220];
+            let written = write_name(&ENC, &MAC, b"id", name, &mut stored, &mut []);
+            assert_eq!((written, stored), (Err(Refusal::Name), [7; 220]));
+
+            let text = full_name(&siv::seal(&MAC, &ENC, &[b"id"], name));
+            let mut out = [7; 8];
+            let opened = open_name(&ENC, &MAC, b"id", text.as_bytes(), &mut out);
+            assert_eq!((opened, out), (Err(Refusal::Name), [7; 8]));
+            let opened = open_name(&ENC, &MAC, b"other", text.as_bytes(), &mut out);
+            assert_eq!((opened, out), (Err(Refusal::SyntheticIv), [7; 8]));
         }
     }
 

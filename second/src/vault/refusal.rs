@@ -8,8 +8,8 @@ pub enum Refusal {
     KeyOrNonceSize,
     /// The directory ID has more than 36 bytes, or one of 128 or more.
     DirectoryId,
-    /// The name to write has no bytes or more than 1,020.
-    NameSize,
+    /// The name has no bytes or more than 1,020, or is not proper text.
+    Name,
     /// No file, header or chunk has this length.
     Length,
     /// The text form of the name is broken, or too long for a plain one.
@@ -36,7 +36,7 @@ impl Refusal {
         match self {
             Refusal::KeyOrNonceSize => 1,
             Refusal::DirectoryId => 2,
-            Refusal::NameSize => 3,
+            Refusal::Name => 3,
             Refusal::Length => 4,
             Refusal::Text => 5,
             Refusal::Range => 6,

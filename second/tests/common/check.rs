@@ -6,7 +6,7 @@
 
 use super::primitives::{self, DONE, REFUSED};
 use second::aes::Aes256;
-use second::{base32, base64url, cmac, gcm, sha1, siv};
+use second::{base32, base64url, cmac, gcm, sha1, siv, utf8};
 use std::slice;
 
 /// The longest cleartext that the static library seals and opens by SIV.
@@ -153,4 +153,12 @@ fn compare(
         );
     }
     answer.is_some()
+}
+
+/// Gives whether the text is proper.
+pub fn proper_text(text: &[u8]) -> bool {
+    let proper = utf8::is_proper(text);
+    let status = primitives::proper_text(text);
+    assert_eq!(status, if proper { DONE } else { REFUSED }, "{text:x?}");
+    proper
 }

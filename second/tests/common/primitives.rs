@@ -3,10 +3,10 @@
 #[link(name = "primitives", kind = "static")]
 extern "C" {}
 
-/// The status of a call that wrote its answer.
+/// The status of a call that wrote its answer, or of a test that says yes.
 pub const DONE: u32 = 1;
 
-/// The status of a call that left all as it was.
+/// The status of a call that left all as it was, or of a test that says no.
 pub const REFUSED: u32 = 0;
 
 /// Declares functions of the C boundary, and makes a safe one of each. A
@@ -69,4 +69,5 @@ functions! {
     primitives_base64url_encode as base64url_encode(data: input, padded: flag, out: buffer);
     primitives_base64url_decode as base64url_decode(
         text: input, padded: flag, out: buffer, length: length);
+    primitives_proper_text as proper_text(text: input);
 }

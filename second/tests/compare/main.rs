@@ -9,6 +9,7 @@ mod common {
     pub mod primitives;
     pub mod random;
     pub mod siv_message;
+    pub mod text;
 }
 
 mod addresses;
@@ -20,6 +21,7 @@ mod cmac;
 mod gcm;
 mod sha1;
 mod siv;
+mod utf8;
 
 /// Bytes that are likely to meet special cases.
 const FILLINGS: [u8; 4] = [0x00, 0x01, 0x80, 0xff];

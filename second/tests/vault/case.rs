@@ -34,7 +34,7 @@ impl Call {
         Call::CleartextLength,
     ];
 
-    /// The rows that the call looks at.
+    /// The rows that the call looks at, in the order in which it tries them.
     pub fn rows(self) -> &'static [u32] {
         match self {
             Call::WriteHeader => &[1, 7],
@@ -45,8 +45,8 @@ impl Call {
             Call::OpenFile => &[1, 4, 7, 9, 10],
             Call::ReadRange => &[1, 4, 6, 7, 9, 10],
             Call::WriteName => &[1, 2, 3, 7],
-            Call::OpenName => &[1, 2, 5, 7, 12],
-            Call::OpenLongName => &[1, 2, 5, 7, 11, 12],
+            Call::OpenName => &[1, 2, 5, 7, 12, 3],
+            Call::OpenLongName => &[1, 2, 5, 7, 11, 12, 3],
             Call::DirPath => &[1, 2, 7],
             Call::FileLength | Call::CleartextLength => &[4],
         }

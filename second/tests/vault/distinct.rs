@@ -27,14 +27,18 @@ fn values(compare: &mut Compare) {
             ["name", id, name, ref texts @ ..] => {
                 known::name(compare, [enc(), mac(), directory(id), bytes(name)], texts);
             }
+            ["sealed", id, sealed, ref texts @ ..] => {
+                let inputs = [enc(), mac(), directory(id), bytes(sealed)];
+                known::not_text(compare, inputs, texts);
+            }
             ["path", id, path] => known::path(compare, [enc(), mac(), directory(id)], path),
             _ => panic!("not a value: {fields:?}"),
         }
         kinds.push(fields[0]);
     }
     let count = |kind| kinds.iter().filter(|&&other| other == kind).count();
-    let counts = ["header", "reserved", "chunk", "name", "path"].map(count);
-    assert_eq!(counts, [1, 1, 2, 10, 2]);
+    let counts = ["header", "reserved", "chunk", "name", "sealed", "path"].map(count);
+    assert_eq!(counts, [1, 1, 2, 10, 3, 2]);
 }
 
 /// The reserved bytes are not those that our writers write; they are returned,

@@ -7,15 +7,16 @@ mod room;
 use crate::case::{Call, Case};
 use crate::common::random::Random;
 
-pub use names::full_name;
+pub use names::stray;
 
-/// Makes a row apply to a case to which no lower row does. Gives `false`, and
-/// changes nothing, if it can't: not every case has a chunk, say.
+/// Makes a row apply to a case to which none does that is tried before it.
+/// Gives `false`, and changes nothing, if it can't: not every case has a chunk,
+/// say.
 pub fn spoil(case: &mut Case, row: u32, random: &mut Random) -> bool {
     match row {
         1 => key_or_nonce(case, random),
         2 => names::directory_id(case, random),
-        3 => names::name_size(case, random),
+        3 => names::name(case, random),
         4 => content::length(case, random),
         5 => names::text(case, random),
         6 => content::range(case, random),

@@ -1,4 +1,4 @@
-//! Known values: both programs write them, and open them again.
+//! Known values: both programs write them, and open them again, or refuse both.
 
 use crate::case::{Call, Case};
 use crate::compare::Compare;
@@ -22,17 +22,46 @@ pub fn chunk(compare: &mut Compare, inputs: [Vec<u8>; 4], number: u64, chunk: Ve
 /// The full name, or the hash name and the full name, of two master keys, a
 /// directory ID and a name.
 pub fn name(compare: &mut Compare, inputs: [Vec<u8>; 4], texts: &[&str]) {
-    let (call, stored, full) = match *texts {
-        [full] => (Call::OpenName, full, ""),
-        [hash, full] => (Call::OpenLongName, hash, full),
+    let answers = match *texts {
+        [full] => [full, ""],
+        [hash, full] => [hash, full],
         _ => panic!("not what a name is stored as"),
     };
-    let answers = [stored, full].map(str::as_bytes);
+    let answers = answers.map(str::as_bytes);
     fills(compare, Call::WriteName, &inputs, &[], &answers);
-    let [enc, mac, id, name] = inputs;
-    let mut inputs = vec![enc, mac, id];
-    inputs.extend(texts.iter().map(|text| text.as_bytes().to_vec()));
-    fills(compare, call, &inputs, &[], &[&name]);
+    let (call, opened) = opening(&inputs, texts);
+    fills(compare, call, &opened, &[], &[&inputs[3]]);
+}
+
+/// The same of bytes that are not text: row 3, and in another directory row 12.
+pub fn not_text(compare: &mut Compare, inputs: [Vec<u8>; 4], texts: &[&str]) {
+    let (call, mut opened) = opening(&inputs, texts);
+    let sizes = [220, 1388];
+    assert_eq!(row(compare, Call::WriteName, &inputs, &sizes), 3);
+    assert_eq!(row(compare, call, &opened, &sizes[1..]), 3);
+    opened[2] = vec![];
+    assert_eq!(row(compare, call, &opened, &sizes[1..]), 12);
+}
+
+/// The call that opens these texts, and its inputs.
+fn opening([enc, mac, id, _]: &[Vec<u8>; 4], texts: &[&str]) -> (Call, Vec<Vec<u8>>) {
+    let call = match texts.len() {
+        1 => Call::OpenName,
+        _ => Call::OpenLongName,
+    };
+    let texts = texts.iter().map(|text| text.as_bytes().to_vec());
+    let directory = [enc, mac, id].map(Clone::clone);
+    (call, directory.into_iter().chain(texts).collect())
+}
+
+/// The row of a call with buffers of these sizes.
+fn row(compare: &mut Compare, call: Call, inputs: &[Vec<u8>], sizes: &[usize]) -> u32 {
+    compare.row(&Case {
+        call,
+        inputs: inputs.to_vec(),
+        numbers: vec![],
+        buffers: sizes.iter().map(|&size| vec![0xa5; size]).collect(),
+    })
 }
 
 /// The path of two master keys and a directory ID.

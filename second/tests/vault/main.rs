@@ -13,6 +13,7 @@
 mod common {
     pub mod fields;
     pub mod random;
+    pub mod text;
 }
 
 mod case;
@@ -32,6 +33,7 @@ mod names;
 mod order;
 mod points;
 mod predict;
+mod proper_text;
 mod random_calls;
 mod ranges;
 mod stock_program;
@@ -49,13 +51,14 @@ use tally::Tally;
 
 type Part = (&'static str, fn(&mut Compare));
 
-const PARTS: [&[Part]; 13] = [
+const PARTS: [&[Part]; 14] = [
     longest::PARTS,
     files::PARTS,
     ranges::PARTS,
     chunks::PARTS,
     texts::PARTS,
     names::PARTS,
+    proper_text::PARTS,
     order::PARTS,
     exchange::PARTS,
     headers::PARTS,

@@ -3,8 +3,7 @@
 use crate::case::{Call, Case, End};
 use crate::common::random::Random;
 use crate::compare::Compare;
-use crate::fault::full_name;
-use crate::make::{self, number};
+use crate::make::{self, full_name, number};
 use crate::Part;
 
 pub const PARTS: &[Part] = &[

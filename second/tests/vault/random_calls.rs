@@ -77,12 +77,13 @@ fn one(compare: &mut Compare) {
 fn random_case(call: Call, random: &mut Random) -> Case {
     let mut case = make::case(call, random);
     let faults = [0, 1, 1, 2][random.below(4)];
-    let mut rows: Vec<_> = (0..faults)
-        .map(|_| call.rows()[random.below(call.rows().len())])
+    let mut places: Vec<_> = (0..faults)
+        .map(|_| random.below(call.rows().len()))
         .collect();
-    rows.sort();
-    rows.dedup();
-    for row in rows.into_iter().rev() {
+    places.sort();
+    places.dedup();
+    for place in places.into_iter().rev() {
+        let row = call.rows()[place];
         // A cleartext over the limit takes longer than many other calls.
         if (call, row) != (Call::WriteFile, 4) || random.below(20) == 0 {
             spoil(&mut case, row, random);

@@ -2,8 +2,7 @@
 
 use crate::case::{Call, Case};
 use crate::compare::Compare;
-use crate::fault::full_name;
-use crate::make::{self, LONGEST_FULL_NAME, LONGEST_NAME};
+use crate::make::{self, full_name, LONGEST_FULL_NAME, LONGEST_NAME};
 use crate::Part;
 
 pub const PARTS: &[Part] = &[

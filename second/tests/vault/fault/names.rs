@@ -3,7 +3,8 @@
 use super::{flip, resize};
 use crate::case::{Call, Case};
 use crate::common::random::Random;
-use crate::make::{self, LONGEST_NAME, LONGEST_PLAIN};
+use crate::common::text::random_text;
+use crate::make::{self, full_name, LONGEST_NAME, LONGEST_PLAIN};
 use second::base64url;
 
 pub fn directory_id(case: &mut Case, random: &mut Random) {
@@ -19,9 +20,35 @@ pub fn directory_id(case: &mut Case, random: &mut Random) {
     }
 }
 
-pub fn name_size(case: &mut Case, random: &mut Random) {
+/// A name that is too short, too long or not text, to write or sealed.
+pub fn name(case: &mut Case, random: &mut Random) {
+    if case.call != Call::WriteName {
+        return sealed_name(case, random);
+    }
+    if random.below(2) == 0 {
+        return stray(&mut case.inputs[3], random);
+    }
     let len = random.below(2) * (LONGEST_NAME + 1 + random.below(2) * random.below(1000));
-    case.inputs[3] = random.bytes(len);
+    case.inputs[3] = random_text(random, len);
+}
+
+/// The text of bytes that are not text, as many as there were.
+fn sealed_name(case: &mut Case, random: &mut Random) {
+    let mut name = make::sealed_in(case);
+    stray(&mut name, random);
+    case.inputs = make::open_sealed(random, case, &name).inputs;
+}
+
+/// Changes bytes until it is no longer text.
+pub fn stray(name: &mut [u8], random: &mut Random) {
+    while std::str::from_utf8(name).is_ok() && !name.contains(&0) && !name.contains(&b'/') {
+        let place = random.below(name.len());
+        name[place] = match random.below(4) {
+            0 => b"\0/"[random.below(2)],
+            1 => b"\xc0\xc1\xe0\xed\xf0\xf4\xf5\xff"[random.below(8)],
+            _ => 0x80 + random.below(0x80) as u8,
+        };
+    }
 }
 
 /// Breaks the text form. That of a plain name can also be too long.
@@ -96,8 +123,4 @@ pub fn synthetic_iv(case: &mut Case, random: &mut Random) -> bool {
         case.inputs[3] = make::hash_name(&case.inputs[4]);
     }
     true
-}
-
-pub fn full_name(sealed: &[u8]) -> Vec<u8> {
-    (base64url::encode(sealed, true) + ".c9r").into_bytes()
 }

@@ -3,12 +3,13 @@
 use super::{buffer, with_room, LONGEST_FULL_NAME};
 use crate::case::{Call, Case};
 use crate::common::random::Random;
+use crate::common::text::random_text;
 use second::vault::{self, WrittenName};
-use second::{base64url, sha1};
+use second::{base64url, sha1, siv};
 
 pub fn write_name(random: &mut Random, len: usize) -> Case {
     let (keys, id) = (keys(random), dir_id(random));
-    let inputs = [&keys[..], &[id, random.bytes(len)]].concat();
+    let inputs = [&keys[..], &[id, random_text(random, len)]].concat();
     let full = (16 + len).div_ceil(3) * 4 + 4;
     let (stored, full) = if full <= 220 { (full, 0) } else { (32, full) };
     let mut case = with_room(Call::WriteName, random, inputs, &[], stored);
@@ -19,6 +20,32 @@ pub fn write_name(random: &mut Random, len: usize) -> Case {
 pub fn open_name(random: &mut Random, len: usize) -> Case {
     let write = write_name(random, len);
     open_written(random, &write)
+}
+
+/// The call that opens the full name of these bytes, under the keys and in the
+/// directory of another call; `second` sealed them, and they need not be text.
+pub fn open_sealed(random: &mut Random, other: &Case, name: &[u8]) -> Case {
+    let (enc, mac) = master_keys(other);
+    let full = full_name(&siv::seal(mac, enc, &[&other.inputs[2]], name));
+    let (call, texts) = match full.len() {
+        0..=220 => (Call::OpenName, vec![full]),
+        _ => (Call::OpenLongName, vec![hash_name(&full), full]),
+    };
+    let inputs = [&other.inputs[..3], &texts].concat();
+    with_room(call, random, inputs, &[], name.len())
+}
+
+/// The bytes that an opener's case has sealed in its (full) name.
+pub fn sealed_in(case: &Case) -> Vec<u8> {
+    let (enc, mac) = master_keys(case);
+    let full = case.inputs.last().expect("a text");
+    let sealed = base64url::decode(&full[..full.len() - 4], true).expect("a text");
+    siv::open(mac, enc, &[&case.inputs[2]], &sealed).expect("its own directory")
+}
+
+fn master_keys(case: &Case) -> (&[u8; 32], &[u8; 32]) {
+    let [enc, mac] = [0, 1].map(|key| case.inputs[key][..].try_into().expect("a key"));
+    (enc, mac)
 }
 
 /// The call that opens, in its directory, what this one writes.
@@ -67,6 +94,11 @@ pub fn dir_path(random: &mut Random) -> Case {
 pub fn hash_name(full: &[u8]) -> Vec<u8> {
     let hash = sha1::digest(full);
     (base64url::encode(&hash, true) + ".c9s").into_bytes()
+}
+
+/// The text of a sealed name.
+pub fn full_name(sealed: &[u8]) -> Vec<u8> {
+    (base64url::encode(sealed, true) + ".c9r").into_bytes()
 }
 
 pub fn dir_id(random: &mut Random) -> Vec<u8> {

@@ -11,7 +11,7 @@ use Rattle.octets.specs.Rows.{refused, number}
 use Rattle.answer.specs.Meaning.{row}
 use Rattle.answer.proofs.Refusal.{the-type}
 use Rattle.answer.specs.declared.Refusal.{Refusal}
-use Rattle.answer.specs.declared.Refusal.the-variants.{KeyOrNonceSize, DirectoryId, NameSize, Length, Text, Range, Room, RepeatedNonce, Header, Chunk, HashName, SyntheticIv}
+use Rattle.answer.specs.declared.Refusal.the-variants.{KeyOrNonceSize, DirectoryId, Name, Length, Text, Range, Room, RepeatedNonce, Header, Chunk, HashName, SyntheticIv}
 use Rattle.check_line.specs.Line.{refusedLine, refusedAtLine, lineOf}
 use Rattle.check_line.proofs.Pieces.{written-as}
 use borrow.Author.Needs.{needs}
@@ -25,7 +25,7 @@ others = 0 ∷ 1 ∷ 2 ∷ 3 ∷ 4 ∷ 5 ∷ 6 ∷ 7 ∷ 8 ∷ 10 ∷ 11 ∷ []
 alone : (r : Refusal) → OneOf others (tagOf the-type r) → refused (number (row r)) ≡ row r
 alone KeyOrNonceSize h = refl
 alone DirectoryId h = refl
-alone NameSize h = refl
+alone Name h = refl
 alone Length h = refl
 alone Text h = refl
 alone Range h = refl

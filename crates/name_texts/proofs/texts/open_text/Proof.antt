@@ -1,16 +1,21 @@
 -- `open_text`: the sealed name of the text, opened into a buffer of its own before the caller's gets a byte.
 -- Assumes nothing.
-use Prim.Native.Nat.{ℕ, _+_, _-_}
-use mathlib.Core.Path.{_≡_, refl, sym, ap, _∙_}
+use Prim.Native.Nat.{ℕ, _+_, _-_, _≤_}
+use mathlib.Core.Path.{_≡_, sym, ap, ap₂, _∙_}
+use mathlib.Core.Bool.{false, not}
 use mathlib.Core.List.{List, [], _∷_}
 use native.Mathlib.Omega.{arith}
 use lib.ListN.{length, take, replicate}
 use lib.Seq.{length-take-le}
-use borrow.Author.Tests.{not-true, not-false}
-use Rattle.octets.specs.Bytes.{placed}
+use borrow.Author.Tests.{not-false}
+use Rattle.octets.specs.Bytes.{placed, filled}
+use Rattle.octets.specs.Rows.{done, ended, EndsExactly}
 use Rattle.aes_spec.specs.Cipher.{aes}
 use Rattle.siv.specs.Siv as siv
 use Rattle.name_spec.specs.Names.{nameLimit, ivSize, sealedOf, nameLength, nameOf, nameGood}
+use Rattle.utf8.specs.ProperText.{properText}
+use Rattle.name_spec.specs.Calls.{openTextRows, openText}
+use Rattle.name_spec.proofs.Ends.{text-ends}
 use Rattle.name_spec.proofs.Texts.{text-facts, text-size, length-name}
 use Rattle.name_texts.proofs.Placing.{front, placed-filled}
 use borrow.Author.Needs.{needs}
@@ -93,35 +98,72 @@ open-under-requires c κs =
     let n = sealed-size (c .before) in
     (c .before .before .before .before .before .before .before .before .before .before .before .pre .0, (omega (arith, l), omega (arith, l, n, f .high), omega (arith, l, n, f .high)))
 
-returns : tie.Need-returns
-returns c = (sym (not-true _ (c .if1 .taken)) ∙ matches (c .before .before), refl)
+-- The rows, and how they are told.
+rows : (c : tie.After-open-under) →
+    let x = c .before .before .before .before .before .before .before .before .before .before .before .before .args in
+    EndsExactly (openTextRows (x .enc .now) (x .mac .now) (x .id .now) (x .text .now)) (nameLength (x .text .now) ∷ [])
+    (filled (nameOf (x .enc .now) (x .text .now)) (nameLength (x .text .now)) (x .out .now)) (x .out .now) (openText (x .enc .now) (x .mac .now) (x .id .now) (x .text .now) (x .out .now))
+rows c = let x = c .before .before .before .before .before .before .before .before .before .before .before .before .args in text-ends (x .enc .now) (x .mac .now) (x .id .now) (x .text .now) (x .out .now)
 
-array-share-prefix-name : tie.Need-array-share-prefix-name
+good : (c : tie.Else1) →
+    let x = c .before .before .before .before .before .before .before .before .before .before .before .before .before .before .args in
+    not (nameGood (x .enc .now) (x .mac .now) (x .id .now) (x .text .now)) ≡ false
+good c = ap not (sym (matches (c .before .before)) ∙ not-false _ (c .if1 .left))
+
+told : (c : tie.After-proper-text) →
+    let x = c .before .before .before .before .before .before .before .before .before .before .before .before .before .before .before .before .args in
+    c .proper-text .result ≡ properText (nameOf (x .enc .now) (x .text .now))
+told c = c .proper-text .ensures ∙ ap properText (name (c .before .before .before .before))
+
+returns : tie.Need-returns
+unfolding openTextRows
+returns c = let k = c .before .before in sym (rows k .0 0 (omega arith) .1 (ap not (sym (matches k)) ∙ c .if1 .taken))
+
+-- The name's place in its array.
+prefix : (c : tie.Else1) → c .before .before .before .before .before .before .before .before .before .before .before .before .before .before .args .n ≤ length (c .before .before .open-under .last .1 .1 .1 .1 .0)
 unfolding nameLength
-array-share-prefix-name c =
+prefix c =
     let p = c .before .before .before .before .before .before .before .before .before .before .before .before .before .before .pre .1 in
     let f = text-facts (c .before .before .before .before .before .before .before .before .before .before .before .before .before .before .args .text .now) (p .0) in
     let l : length (c .before .before .open-under .last .1 .1 .1 .1 .0) ≡ nameLimit = search needs in
     omega (arith, l, f .high, p .1)
 
+array-share-prefix-name : tie.Need-array-share-prefix-name
+array-share-prefix-name c = prefix c
+
+slice-aggregate-proper-text : tie.Need-slice-aggregate-proper-text
+slice-aggregate-proper-text c = sym (ap length (name (c .before .before .before)) ∙ name-size (c .before .before .before))
+
+proper-text-requires : tie.Need-proper-text-requires
+proper-text-requires c κs = search needs
+
+returns-2 : tie.Need-returns-2
+unfolding openTextRows
+returns-2 c =
+    let k = c .before .before .before .before .before in
+    sym (rows k .0 1 (omega arith) .1 (good (c .before .before .before), ap not (sym (told (c .before))) ∙ c .if2 .taken))
+
+array-share-prefix-name-2 : tie.Need-array-share-prefix-name-2
+array-share-prefix-name-2 c = prefix (c .before .before .before)
+
 slice-aggregate-copy-at : tie.Need-slice-aggregate-copy-at
-slice-aggregate-copy-at c = sym (ap length (name (c .before .before .before)) ∙ name-size (c .before .before .before))
+slice-aggregate-copy-at c = let k = c .before .before .before .before .before .before in sym (ap length (name k) ∙ name-size k)
 
 copy-at-requires : tie.Need-copy-at-requires
-copy-at-requires c κs = let l = ap length (name (c .before .before .before .before)) ∙ name-size (c .before .before .before .before) in omega (arith, l, c .before .before .before .before .before .before .before .before .before .before .before .before .before .before .before .before .pre .1 .2)
+copy-at-requires c κs = let k = c .before .before .before .before .before .before .before in let l = ap length (name k) ∙ name-size k in omega (arith, l, k .before .before .before .before .before .before .before .before .before .before .before .before .pre .1 .2)
 
 same-length : tie.Need-same-length
 same-length c = search needs
 
-returns-2 : tie.Need-returns-2
-returns-2 c =
-    let k = c .before .before .before .before .before .before .before in
+returns-3 : tie.Need-returns-3
+unfolding openTextRows
+returns-3 c =
+    let k = c .before .before .before .before .before .before .before .before .before .before in
     let x = k .before .before .before .before .before .before .before .before .before .before .before .before .args in
-    let t = x .text .now in (
-      sym (not-false _ (c .before .before .before .before .before .if1 .left)) ∙ matches k,
-      c .before .before .copy-at .ensures ∙ ap (λ (l : List ℕ). placed l 0 (x .out .now)) (name k)
-          ∙ placed-filled (nameOf (x .enc .now) t) (x .out .now) (nameLength t) (length-name (x .enc .now) t),
-    )
+    let t = x .text .now in
+    ap₂ (λ (n : ℕ) (l : List ℕ). ended (done (n ∷ [])) l) (k .before .before .before .before .before .before .before .before .before .before .before .before .pre .1 .1)
+    (c .before .before .copy-at .ensures ∙ ap (λ (l : List ℕ). placed l 0 (x .out .now)) (name k) ∙ placed-filled (nameOf (x .enc .now) t) (x .out .now) (nameLength t) (length-name (x .enc .now) t))
+    ∙ sym (rows k .1 .1 (good (c .before .before .before .before .before .before .before .before), (ap not (sym (told (c .before .before .before .before .before .before)) ∙ not-false _ (c .before .before .before .before .before .if2 .left)), tt)))
 
 pub open-text-spec : {M : Type 1} → statement M
 open-text-spec =
@@ -138,7 +180,11 @@ open-text-spec =
     open-under-requires
     returns
     array-share-prefix-name
+    slice-aggregate-proper-text
+    proper-text-requires
+    returns-2
+    array-share-prefix-name-2
     slice-aggregate-copy-at
     copy-at-requires
     same-length
-    returns-2)
+    returns-3)

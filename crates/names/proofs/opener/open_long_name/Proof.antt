@@ -1,19 +1,16 @@
 -- `open_long_name`: the rows in order, and the name.
 -- Assumes nothing.
-use Prim.Native.Nat.{ℕ}
 use mathlib.Core.Path.{_≡_, sym, ap, ap₂, _∙_}
-use mathlib.Core.Bool.{Bool, true, false, not, _||_, cond}
-use mathlib.Core.List.{List, [], _∷_}
+use mathlib.Core.Bool.{Bool, true, false, not, _||_}
 use native.Mathlib.Omega.{arith}
 use lib.Dec.{ltb}
 use lib.ListN.{length}
 use borrow.Author.Tests.{not-true, not-false, lt-ltb, le-ltb}
-use Rattle.octets.specs.Bytes.{filled, same}
-use Rattle.octets.specs.Rows.{done, refused, ended}
+use Rattle.octets.specs.Bytes.{same}
 use Rattle.siv_gcm.specs.SivGcm.{masterKeysRight}
-use Rattle.name_spec.specs.Names.{idRight, hashName, short, textRight, nameLength, nameOf}
+use Rattle.name_spec.specs.Names.{idRight, hashName, short, textRight, nameLength}
 use Rattle.name_spec.specs.Calls.{openLongNameRows}
-use Rattle.name_spec.proofs.Ends.{name-ends}
+use Rattle.name_spec.proofs.Ends.{name-ends, long-by-text}
 use Rattle.name_texts.proofs.Measured.{form-broken, form-right}
 use borrow.Author.Needs.{needs}
 use Rattle.names.proofs.opener.open_long_name.Statement.{statement}
@@ -117,32 +114,11 @@ same-length : tie.Need-same-length
 same-length c = search needs
 
 returns-7 : tie.Need-returns-7
-unfolding openLongNameRows
 returns-7 c =
-    let k = c .before .before .before .before .before .before .before .before .before .before in
+    let k = c .before .before .before .before .before .before .before .before .before in
     let x = k .before .before .before .before .before .before .before .before .before .before .before .before .args in
-    let exact = name-ends (x .enc .now) (x .mac .now) (x .dir-id .now) .3 (x .stored .now) (x .full .now) (x .out .now) in
-    let t = x .full .now in
-    let u = c .before .before .before .open-text in
-    let no = not-true _ (c .if7 .taken) in
-    ap (ended (refused 12)) (u .ensures .1 ∙ ap (λ (b : Bool). cond b (filled (nameOf (x .enc .now) t) (nameLength t) (x .out .now)) (x .out .now)) no)
-    ∙ sym (exact .0 5 (omega arith) .1 (ap not (keys (k .before .before .before .before)), (ap not (right (k .before .before)), (ap not (form k .0), (roomy (c .before .before .before .before .before .before .before .before .before), (pair (c .before .before .before .before .before), ap not (sym (u .ensures .0) ∙ no)))))))
-
-same-length-2 : tie.Need-same-length-2
-same-length-2 c = search needs
-
-returns-8 : tie.Need-returns-8
-unfolding openLongNameRows
-returns-8 c =
-    let k = c .before .before .before .before .before .before .before .before .before .before in
-    let x = k .before .before .before .before .before .before .before .before .before .before .before .before .args in
-    let exact = name-ends (x .enc .now) (x .mac .now) (x .dir-id .now) .3 (x .stored .now) (x .full .now) (x .out .now) in
-    let t = x .full .now in
-    let u = c .before .before .before .open-text in
-    let ok = not-false _ (c .if7 .left) in
-    ap₂ (λ (n : ℕ) (l : List ℕ). ended (done (n ∷ [])) l) (form k .1)
-    (u .ensures .1 ∙ ap (λ (b : Bool). cond b (filled (nameOf (x .enc .now) t) (nameLength t) (x .out .now)) (x .out .now)) ok)
-    ∙ sym (exact .1 .1 (ap not (keys (k .before .before .before .before)), (ap not (right (k .before .before)), (ap not (form k .0), (roomy (c .before .before .before .before .before .before .before .before .before), (pair (c .before .before .before .before .before), (ap not (sym (u .ensures .0) ∙ ok), tt)))))))
+    c .before .before .open-text .ensures
+    ∙ sym (long-by-text (x .enc .now) (x .mac .now) (x .dir-id .now) (keys (k .before .before .before .before)) (right (k .before .before)) (x .stored .now) (x .full .now) (x .out .now) (form k .0) (roomy (c .before .before .before .before .before .before .before .before)) (pair (c .before .before .before .before)))
 
 pub open-long-name-spec : {M : Type 1} → statement M
 open-long-name-spec =
@@ -161,6 +137,4 @@ open-long-name-spec =
     returns-6
     open-text-requires
     same-length
-    returns-7
-    same-length-2
-    returns-8)
+    returns-7)

@@ -1,19 +1,15 @@
 -- `open_name`: the rows in order, and the name.
 -- Assumes nothing.
-use Prim.Native.Nat.{ℕ}
 use mathlib.Core.Path.{_≡_, sym, ap, ap₂, _∙_}
-use mathlib.Core.Bool.{Bool, true, false, not, _||_, or-true, cond}
-use mathlib.Core.List.{List, [], _∷_}
+use mathlib.Core.Bool.{Bool, true, false, not, _||_, or-true}
 use native.Mathlib.Omega.{arith}
 use lib.Dec.{ltb}
 use lib.ListN.{length}
 use borrow.Author.Tests.{not-true, not-false, lt-ltb, le-ltb}
-use Rattle.octets.specs.Bytes.{filled}
-use Rattle.octets.specs.Rows.{done, refused, ended}
 use Rattle.siv_gcm.specs.SivGcm.{masterKeysRight}
-use Rattle.name_spec.specs.Names.{idRight, short, textRight, nameLength, nameOf}
+use Rattle.name_spec.specs.Names.{idRight, short, textRight, nameLength}
 use Rattle.name_spec.specs.Calls.{openNameRows}
-use Rattle.name_spec.proofs.Ends.{name-ends}
+use Rattle.name_spec.proofs.Ends.{name-ends, plain-by-text}
 use Rattle.name_texts.proofs.Measured.{form-broken, form-right}
 use borrow.Author.Needs.{needs}
 use Rattle.names.proofs.opener.open_name.Statement.{statement}
@@ -106,32 +102,11 @@ same-length : tie.Need-same-length
 same-length c = search needs
 
 returns-6 : tie.Need-returns-6
-unfolding openNameRows
 returns-6 c =
-    let k = c .before .before .before .before .before .before in
+    let k = c .before .before .before .before .before in
     let x = k .before .before .before .before .before .before .before .before .before .before .before .before .before .args in
-    let exact = name-ends (x .enc .now) (x .mac .now) (x .dir-id .now) .2 (x .stored .now) (x .out .now) in
-    let t = x .stored .now in
-    let u = c .before .before .before .open-text in
-    let no = not-true _ (c .if6 .taken) in
-    ap (ended (refused 12)) (u .ensures .1 ∙ ap (λ (b : Bool). cond b (filled (nameOf (x .enc .now) t) (nameLength t) (x .out .now)) (x .out .now)) no)
-    ∙ sym (exact .0 4 (omega arith) .1 (ap not (keys (k .before .before .before .before .before .before)), (ap not (right (k .before .before .before .before)), (text k, (roomy (c .before .before .before .before .before), ap not (sym (u .ensures .0) ∙ no))))))
-
-same-length-2 : tie.Need-same-length-2
-same-length-2 c = search needs
-
-returns-7 : tie.Need-returns-7
-unfolding openNameRows
-returns-7 c =
-    let k = c .before .before .before .before .before .before in
-    let x = k .before .before .before .before .before .before .before .before .before .before .before .before .before .args in
-    let exact = name-ends (x .enc .now) (x .mac .now) (x .dir-id .now) .2 (x .stored .now) (x .out .now) in
-    let t = x .stored .now in
-    let u = c .before .before .before .open-text in
-    let ok = not-false _ (c .if6 .left) in
-    ap₂ (λ (n : ℕ) (l : List ℕ). ended (done (n ∷ [])) l) (form k .1)
-    (u .ensures .1 ∙ ap (λ (b : Bool). cond b (filled (nameOf (x .enc .now) t) (nameLength t) (x .out .now)) (x .out .now)) ok)
-    ∙ sym (exact .1 .1 (ap not (keys (k .before .before .before .before .before .before)), (ap not (right (k .before .before .before .before)), (text k, (roomy (c .before .before .before .before .before), (ap not (sym (u .ensures .0) ∙ ok), tt))))))
+    c .before .before .open-text .ensures
+    ∙ sym (plain-by-text (x .enc .now) (x .mac .now) (x .dir-id .now) (keys (k .before .before .before .before .before .before)) (right (k .before .before .before .before)) (x .stored .now) (x .out .now) (text k) (roomy (c .before .before .before .before)))
 
 pub open-name-spec : {M : Type 1} → statement M
 open-name-spec =
@@ -148,6 +123,4 @@ open-name-spec =
     returns-5
     open-text-requires
     same-length
-    returns-6
-    same-length-2
-    returns-7)
+    returns-6)

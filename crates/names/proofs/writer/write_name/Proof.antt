@@ -78,7 +78,7 @@ returns-3 c =
     sym (exact .0 2 (omega arith) .1 (ap not (keys (c .before .before .before .before)), (ap not (right (c .before .before)), ap not (sym (c .before .name-right .ensures)) ∙ c .if3 .taken)))
 
 full-length-requires : tie.Need-full-length-requires
-full-length-requires c κs = name-exactly _ .0 (sized c) .1
+full-length-requires c κs = name-exactly _ .0 (sized c) .0 .1
 
 short-requires : tie.Need-short-requires
 short-requires c κs = search needs
@@ -95,7 +95,7 @@ returns-4 c =
 write-full-requires : tie.Need-write-full-requires
 write-full-requires c κs =
     let k = c .before .before .before .before in
-    (keys (k .before .before .before .before .before), (name-exactly _ .0 (sized (k .before)) .1, omega (arith, k .full-length .ensures, c .before .if5 .left)))
+    (keys (k .before .before .before .before .before), (name-exactly _ .0 (sized (k .before)) .0 .1, omega (arith, k .full-length .ensures, c .before .if5 .left)))
 
 same-length : tie.Need-same-length
 same-length c = search needs
@@ -135,7 +135,7 @@ returns-7 c =
 write-full-requires-2 : tie.Need-write-full-requires-2
 write-full-requires-2 c κs =
     let k = c .before .before .before .before .before in
-    (keys (k .before .before .before .before .before), (name-exactly _ .0 (sized (k .before)) .1, omega (arith, k .full-length .ensures, c .before .if7 .left)))
+    (keys (k .before .before .before .before .before), (name-exactly _ .0 (sized (k .before)) .0 .1, omega (arith, k .full-length .ensures, c .before .if7 .left)))
 
 slice-reshare-prefix-write-hash : tie.Need-slice-reshare-prefix-write-hash
 slice-reshare-prefix-write-hash c = search needs

@@ -1,0 +1,5 @@
+pub mod Utf8
+pub mod ProperText
+pub mod Continued
+pub mod Statements
+pub mod Examples
