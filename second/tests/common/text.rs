@@ -1,6 +1,11 @@
-//! Random text.
+//! Text, by Rust's own test, and random text.
 
 use super::random::Random;
+
+/// Is this well-formed UTF-8 with no byte 0 or '/'?
+pub fn is_text(bytes: &[u8]) -> bool {
+    std::str::from_utf8(bytes).is_ok() && !bytes.contains(&0) && !bytes.contains(&b'/')
+}
 
 /// The numbers of the characters of one byte in UTF-8, but for 0, and of those
 /// of two, three and four bytes.

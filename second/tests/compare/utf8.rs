@@ -2,12 +2,11 @@
 
 use crate::common::check;
 use crate::common::random::Random;
-use crate::common::text::random_text;
+use crate::common::text::{is_text, random_text};
 
 /// Also held to Rust's own test.
 fn check(text: &[u8]) {
-    let expected = std::str::from_utf8(text).is_ok() && !text.contains(&0) && !text.contains(&b'/');
-    assert_eq!(check::proper_text(text), expected, "{text:x?}");
+    assert_eq!(check::proper_text(text), is_text(text), "{text:x?}");
 }
 
 #[test]

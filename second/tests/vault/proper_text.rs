@@ -2,7 +2,7 @@
 //! after `second` sealed it.
 
 use crate::case::{Call, Case};
-use crate::common::text::random_text;
+use crate::common::text::{is_text, random_text};
 use crate::compare::Compare;
 use crate::fault::stray;
 use crate::make::{self, LONGEST_NAME, LONGEST_PLAIN};
@@ -21,11 +21,6 @@ pub const PARTS: &[Part] = &[
     ("text: not text, moved", moved),
 ];
 
-/// Rust's own test, and no byte 0 or '/'.
-fn is_proper(name: &[u8]) -> bool {
-    std::str::from_utf8(name).is_ok() && !name.contains(&0) && !name.contains(&b'/')
-}
-
 /// The keys and the directory of the calls.
 fn place(compare: &mut Compare) -> Case {
     make::write_name(&mut compare.random, 1)
@@ -33,7 +28,7 @@ fn place(compare: &mut Compare) -> Case {
 
 /// Writes and opens the name, of 1 to 1,020 bytes, and gives whether it is one.
 fn both(compare: &mut Compare, place: &Case, name: &[u8]) -> bool {
-    let row = if is_proper(name) { 0 } else { 3 };
+    let row = if is_text(name) { 0 } else { 3 };
     let mut write = place.clone();
     write.inputs[3] = name.to_vec();
     write.buffers = [220, 1388].map(|len| compare.random.bytes(len)).to_vec();

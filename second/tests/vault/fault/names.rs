@@ -3,7 +3,7 @@
 use super::{flip, resize};
 use crate::case::{Call, Case};
 use crate::common::random::Random;
-use crate::common::text::random_text;
+use crate::common::text::{is_text, random_text};
 use crate::make::{self, full_name, LONGEST_NAME, LONGEST_PLAIN};
 use second::base64url;
 
@@ -41,7 +41,7 @@ fn sealed_name(case: &mut Case, random: &mut Random) {
 
 /// Changes bytes until it is no longer text.
 pub fn stray(name: &mut [u8], random: &mut Random) {
-    while std::str::from_utf8(name).is_ok() && !name.contains(&0) && !name.contains(&b'/') {
+    while is_text(name) {
         let place = random.below(name.len());
         name[place] = match random.below(4) {
             0 => b"\0/"[random.below(2)],
