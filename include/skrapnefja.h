@@ -14,7 +14,8 @@
  *   Refused: nothing is written, but that row 10 writes the number of the chunk to `at`.
  *
  * Keys and nonces
- *   `enc` and `mac` are the vault's encryption and MAC master keys, 32 bytes each. A content key has 32 bytes, a nonce 12.
+ *   `enc` and `mac` are the vault's encryption and MAC master keys, 32 bytes each; skrapnefja_unwrap_key unwraps them from the
+ *   values in masterkey.cryptomator. A content key has 32 bytes, a nonce 12.
  *   The library makes no random bytes. Draw a content key for each file, and a nonce for each header and each chunk, from a
  *   random generator, anew each time that something is written: GCM is broken by a nonce that is used twice under one key.
  *
@@ -38,7 +39,8 @@ enum skrapnefja_row {
     SKRAPNEFJA_NAME = 3,              /* the name has no byte, more than 1,020, or is not proper text: well-formed UTF-8 without a
                                          zero byte and without '/'; at the openers of names tried last, behind row 12 */
     SKRAPNEFJA_LENGTH = 4,            /* no file has this length, or the cleartext is over the limit; a header isn't 68 bytes; a
-                                         chunk's cleartext isn't 1 to 32,768 bytes, or the chunk not 29 to 32,796 */
+                                         chunk's cleartext isn't 1 to 32,768 bytes, or the chunk not 29 to 32,796; a wrapped key
+                                         isn't 40 */
     SKRAPNEFJA_TEXT = 5,              /* the text of a name is broken; or of more than 220 characters at skrapnefja_open_name */
     SKRAPNEFJA_RANGE = 6,             /* the range ends behind the cleartext */
     SKRAPNEFJA_ROOM = 7,              /* a buffer has not the room for what goes into it */
@@ -46,11 +48,13 @@ enum skrapnefja_row {
     SKRAPNEFJA_HEADER = 9,            /* the header's tag is wrong */
     SKRAPNEFJA_CHUNK = 10,            /* the tag of a chunk that is needed is wrong; `at` is the lowest such chunk's number */
     SKRAPNEFJA_HASH_NAME = 11,        /* the full name has 220 characters or fewer, or the stored name isn't its hash name */
-    SKRAPNEFJA_SYNTHETIC_IV = 12      /* the name's synthetic IV doesn't match, as other keys, another directory or damage can cause */
+    SKRAPNEFJA_SYNTHETIC_IV = 12,     /* the name's synthetic IV doesn't match, as other keys, another directory or damage can cause */
+    SKRAPNEFJA_CHECK_VALUE = 20       /* the check value of a wrapped key is wrong, as another key-encryption key or damage can cause */
 };
 
 /* Sizes in bytes. */
-#define SKRAPNEFJA_KEY_SIZE 32            /* a master key, a content key */
+#define SKRAPNEFJA_KEY_SIZE 32            /* a master key, a content key, a key-encryption key */
+#define SKRAPNEFJA_WRAPPED_KEY_SIZE 40    /* a wrapped key */
 #define SKRAPNEFJA_NONCE_SIZE 12          /* the nonce of a header or a chunk */
 #define SKRAPNEFJA_HEADER_SIZE 68         /* a header as it is stored */
 #define SKRAPNEFJA_CHUNK_SIZE 32768       /* the cleartext of a chunk, at most; all chunks of a file but the last have as much */
@@ -61,6 +65,21 @@ enum skrapnefja_row {
 #define SKRAPNEFJA_NAME_MAX 1020          /* a name, at most */
 #define SKRAPNEFJA_STORED_NAME_MAX 220    /* a name as it is stored, at most */
 #define SKRAPNEFJA_FULL_NAME_MAX 1388     /* the full name of a shortened name, at most */
+
+/*
+ * ---- Master keys. masterkey.cryptomator has those of the vault as "primaryMasterKey" (`enc`) and "hmacMasterKey" (`mac`), each
+ * wrapped to 40 bytes by RFC 3394 and written in base64. `kek`, the key-encryption key, is scrypt of the password, which is not
+ * in this library: 32 bytes for the salt that "scryptSalt" stands for, also in base64, with N = "scryptCostParam", r =
+ * "scryptBlockSize" and p = 1.
+ */
+
+/* Unwraps a wrapped key: writes the key, 32 bytes, once its check value is found right. Rows 1, 4, 7, 20. */
+uint32_t skrapnefja_unwrap_key(const uint8_t *kek, size_t kek_len, const uint8_t *wrapped_key, size_t wrapped_key_len,
+                               uint8_t *out, size_t out_len, uint64_t *length);
+
+/* Wraps a key: writes the wrapped key, 40 bytes. Rows 1, 7. */
+uint32_t skrapnefja_wrap_key(const uint8_t *kek, size_t kek_len, const uint8_t *key, size_t key_len,
+                             uint8_t *out, size_t out_len, uint64_t *length);
 
 /* ---- Lengths: by these a caller sizes its buffers. */
 

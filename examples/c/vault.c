@@ -1,7 +1,8 @@
 /*
- * Writes a vault file of two chunks and reads it back, then writes two names and opens them, and has a third refused. Ends with status 0
- * if all is as expected.
- * Keys and nonces are fixed here so that each run prints the same; a real program draws them from a random generator.
+ * Unwraps a vault's master keys, writes a file of two chunks and reads it back, then writes two names and opens them, and has a third
+ * refused. Ends with status 0 if all is as expected.
+ * The key-encryption key, the content key and the nonces are fixed here so that each run prints the same; a real program gets the first from
+ * scrypt and draws the others from a random generator.
  */
 #include <inttypes.h>
 #include <stdint.h>
@@ -15,8 +16,8 @@
 #define FILE_SIZE (SKRAPNEFJA_HEADER_SIZE + CLEAR_SIZE + 2 * SKRAPNEFJA_CHUNK_OVERHEAD)
 #define UNTOUCHED 0xA5
 
-static const uint8_t enc[SKRAPNEFJA_KEY_SIZE] = {1};
-static const uint8_t mac[SKRAPNEFJA_KEY_SIZE] = {2};
+static uint8_t enc[SKRAPNEFJA_KEY_SIZE];
+static uint8_t mac[SKRAPNEFJA_KEY_SIZE];
 
 static uint8_t cleartext[CLEAR_SIZE];
 static uint8_t file[FILE_SIZE];
@@ -39,6 +40,46 @@ static int all_untouched(const uint8_t *bytes, size_t count)
         }
     }
     return 1;
+}
+
+/* What "primaryMasterKey" and "hmacMasterKey" of masterkey.cryptomator stand for in base64. */
+static const uint8_t primary_master_key[SKRAPNEFJA_WRAPPED_KEY_SIZE] = {
+    0x0B, 0xE9, 0x70, 0x71, 0x12, 0x07, 0x34, 0x05, 0xEA, 0x2B, 0xF9, 0xD6, 0x17, 0xCF, 0x45, 0x9C,
+    0xC9, 0x8A, 0xC9, 0x17, 0xA2, 0x62, 0x5A, 0x47, 0x22, 0x50, 0x4A, 0x30, 0x30, 0xA9, 0x72, 0x54,
+    0x69, 0x43, 0x99, 0x75, 0x26, 0x4A, 0x60, 0xB8};
+static const uint8_t hmac_master_key[SKRAPNEFJA_WRAPPED_KEY_SIZE] = {
+    0xA2, 0x19, 0xF2, 0x8F, 0x70, 0x03, 0xEB, 0x79, 0x45, 0xE4, 0xBB, 0xA5, 0x78, 0x4D, 0xBD, 0x46,
+    0x29, 0x56, 0xF2, 0x8C, 0x86, 0x5E, 0xED, 0x83, 0x0A, 0xA6, 0x51, 0xE2, 0x0C, 0x23, 0xA2, 0xB9,
+    0x92, 0x49, 0xA8, 0x49, 0xA6, 0x8E, 0x6F, 0xFD};
+
+/* Under the key-encryption key, which a real program gets from scrypt of the password. */
+static void unwrap_the_master_keys(void)
+{
+    static const uint8_t kek[SKRAPNEFJA_KEY_SIZE] = {9};
+    static const uint8_t other_kek[SKRAPNEFJA_KEY_SIZE] = {10};
+    uint8_t wrapped[SKRAPNEFJA_WRAPPED_KEY_SIZE];
+    uint64_t length = 99;
+    uint32_t row;
+
+    memset(enc, UNTOUCHED, sizeof enc);
+    row = skrapnefja_unwrap_key(other_kek, sizeof other_kek, primary_master_key, sizeof primary_master_key, enc, sizeof enc,
+                                &length);
+    check(row == SKRAPNEFJA_CHECK_VALUE, "another password");
+    check(length == 99 && all_untouched(enc, sizeof enc), "no key for another password");
+    printf("unwrapped a master key under another password: refused %" PRIu32 "\n", row);
+
+    check(skrapnefja_unwrap_key(kek, sizeof kek, primary_master_key, sizeof primary_master_key, enc, sizeof enc, &length)
+              == SKRAPNEFJA_DONE,
+          "unwrapping the encryption master key");
+    check(skrapnefja_unwrap_key(kek, sizeof kek, hmac_master_key, sizeof hmac_master_key, mac, sizeof mac, &length)
+              == SKRAPNEFJA_DONE,
+          "unwrapping the MAC master key");
+    check(length == SKRAPNEFJA_KEY_SIZE && enc[0] == 1 && mac[0] == 2, "the master keys");
+    printf("unwrapped the master keys: %" PRIu64 " bytes each\n", length);
+
+    check(skrapnefja_wrap_key(kek, sizeof kek, mac, sizeof mac, wrapped, sizeof wrapped, &length) == SKRAPNEFJA_DONE,
+          "wrapping the MAC master key");
+    check(length == sizeof wrapped && memcmp(wrapped, hmac_master_key, sizeof wrapped) == 0, "the wrapped key");
 }
 
 static void write_the_file(void)
@@ -203,6 +244,7 @@ static void write_and_open_a_long_name(void)
 
 int main(void)
 {
+    unwrap_the_master_keys();
     write_the_file();
     open_the_file();
     open_the_header();

@@ -1,9 +1,11 @@
-//! AES block encryption (FIPS 197), with keys of 128 and 256 bits.
+//! The block cipher AES (FIPS 197), with keys of 128 and 256 bits.
 //!
 //! The state is four words, one for each column, with row 0 in the top byte.
 
+mod inverse;
 mod tables;
 
+pub use inverse::InverseAes;
 use tables::{double, S_BOX, T};
 
 /// The bytes in a key of AES-256.

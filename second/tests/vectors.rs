@@ -10,7 +10,7 @@ use common::primitives::{self, DONE, REFUSED};
 use second::aes::{Aes128, Aes256};
 use second::cmac::{self, Cmac};
 use second::siv::{self, Siv};
-use second::{base32, base64url, gcm, sha1, utf8};
+use second::{base32, base64url, gcm, key_wrap, sha1, utf8};
 
 /// What is in `out` before a call.
 const OLD: u8 = 0xa5;
@@ -33,11 +33,39 @@ fn aes256_block() {
         let (key, plaintext) = (array(key), array(plaintext));
         let ciphertext = array(ciphertext);
         assert_eq!(Aes256::new(&key).encrypt(&plaintext), ciphertext);
+        assert_eq!(Aes256::new(&key).decrypt(&ciphertext), plaintext);
 
         let mut out = [OLD; 16];
         assert_eq!(primitives::aes256(&key, &plaintext, &mut out), DONE);
         assert_eq!(out, ciphertext);
+
+        let mut out = [OLD; 16];
+        let status = primitives::aes256_decrypt(&key, &ciphertext, &mut out);
+        assert_eq!(status, DONE);
+        assert_eq!(out, plaintext);
     }
+}
+
+/// Through the static library these run beside the calls of the vault.
+#[test]
+fn keywrap256() {
+    let cases = cases(include_str!("../vectors/keywrap256.txt"));
+    let mut kinds = vec![];
+    for [operation, kek, wrapped, verdict, key] in cases {
+        let (cipher, wrapped) = (Aes256::new(&array(kek)), bytes(wrapped));
+        match (operation, verdict) {
+            ("wrap" | "unwrap", "ok") => {
+                assert_eq!(key_wrap::wrap(&cipher, &bytes(key)), wrapped);
+                assert_eq!(key_wrap::unwrap(&cipher, &wrapped), Some(bytes(key)));
+            }
+            ("unwrap", "FAIL") => assert_eq!(key_wrap::unwrap(&cipher, &wrapped), None),
+            _ => panic!("unknown kind {operation} {verdict}"),
+        }
+        kinds.push((operation, verdict));
+    }
+    let count = |kind| kinds.iter().filter(|&&other| other == kind).count();
+    let counts = [("wrap", "ok"), ("unwrap", "ok"), ("unwrap", "FAIL")].map(count);
+    assert_eq!(counts, [30, 22, 8]);
 }
 
 #[test]

@@ -1,11 +1,30 @@
-//! Writes a file and two names as a vault stores them, and reads them again.
+//! Unwraps a vault's master keys, writes a file and two names as it stores them,
+//! and reads them again.
 
-use skrapnefja::{Refusal, WrittenName};
+use skrapnefja::{Refusal, WrittenName, KEY_LEN, WRAPPED_KEY_LEN};
+
+/// `primaryMasterKey` of `masterkey.cryptomator`.
+#[rustfmt::skip]
+const PRIMARY_MASTER_KEY: [u8; WRAPPED_KEY_LEN] = [
+    0xc1, 0x89, 0xb7, 0x60, 0x69, 0x14, 0x35, 0x23, 0x1e, 0x88,
+    0x0b, 0x40, 0x79, 0xde, 0xec, 0x1c, 0xf6, 0x10, 0xad, 0x37,
+    0x45, 0x3e, 0xfd, 0xbc, 0xf4, 0x04, 0xf2, 0xe6, 0x64, 0x0d,
+    0x12, 0xd4, 0xd2, 0x57, 0x0e, 0x99, 0x33, 0xfd, 0x4e, 0x56,
+];
+/// `hmacMasterKey` of `masterkey.cryptomator`.
+#[rustfmt::skip]
+const HMAC_MASTER_KEY: [u8; WRAPPED_KEY_LEN] = [
+    0xeb, 0x93, 0xd9, 0xeb, 0x5c, 0x5a, 0x02, 0xd4, 0x4f, 0xc4,
+    0xb3, 0xb4, 0x30, 0xce, 0xb8, 0x7c, 0x93, 0x11, 0x41, 0xb5,
+    0x1c, 0x8c, 0x3f, 0x89, 0x78, 0x5c, 0x34, 0x3d, 0x2d, 0x69,
+    0x9e, 0x39, 0xc7, 0xf1, 0x21, 0xe0, 0x12, 0x68, 0x0e, 0xf3,
+];
 
 fn main() -> Result<(), Refusal> {
-    // A vault has its own master keys, and each file its own random content
-    // key and nonces. These here are for show only.
-    let (enc, mac) = ([1; 32], [2; 32]);
+    let [enc, mac] = master_keys()?;
+    assert_eq!([enc, mac], [[1; KEY_LEN], [2; KEY_LEN]]);
+    // Each file has its own random content key and nonces. These here are for
+    // show only.
     let (content_key, header_nonce) = ([3; 32], [4; 12]);
 
     let cleartext = b"14:02 handset 7 takes train 12\n14:05 handset 7 stops train 12\n";
@@ -66,6 +85,23 @@ fn main() -> Result<(), Refusal> {
     println!("which is {name}");
     stray_byte(&enc, &mac);
     long_name(&enc, &mac)
+}
+
+/// The master keys, under the key-encryption key that a real program gets from
+/// scrypt of the password; under that of another password there are none.
+fn master_keys() -> Result<[[u8; KEY_LEN]; 2], Refusal> {
+    let (kek, other_kek) = ([9; KEY_LEN], [10; KEY_LEN]);
+    let (mut enc, mut mac) = ([0; KEY_LEN], [0; KEY_LEN]);
+    let other = skrapnefja::unwrap_key(&other_kek, &PRIMARY_MASTER_KEY, &mut enc);
+    assert_eq!((other, enc), (Err(Refusal::CheckValue), [0; KEY_LEN]));
+    println!("another password: row 20, {}", Refusal::CheckValue);
+
+    skrapnefja::unwrap_key(&kek, &PRIMARY_MASTER_KEY, &mut enc)?;
+    skrapnefja::unwrap_key(&kek, &HMAC_MASTER_KEY, &mut mac)?;
+    let mut wrapped = [0; WRAPPED_KEY_LEN];
+    skrapnefja::wrap_key(&kek, &mac, &mut wrapped)?;
+    assert_eq!(wrapped, HMAC_MASTER_KEY);
+    Ok([enc, mac])
 }
 
 /// A name that is not UTF-8 is refused, and nothing is stored.

@@ -171,4 +171,24 @@ extern "C" {
     pub fn skrapnefja_file_length(cleartext_length: u64, length: *mut u64) -> u32;
 
     pub fn skrapnefja_cleartext_length(file_length: u64, length: *mut u64) -> u32;
+
+    pub fn skrapnefja_wrap_key(
+        kek: *const u8,
+        kek_len: usize,
+        key: *const u8,
+        key_len: usize,
+        out: *mut u8,
+        out_len: usize,
+        length: *mut u64,
+    ) -> u32;
+
+    pub fn skrapnefja_unwrap_key(
+        kek: *const u8,
+        kek_len: usize,
+        wrapped_key: *const u8,
+        wrapped_key_len: usize,
+        out: *mut u8,
+        out_len: usize,
+        length: *mut u64,
+    ) -> u32;
 }

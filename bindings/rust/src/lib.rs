@@ -6,7 +6,8 @@
 //! [`Refusal`] and changes no byte. A buffer that is longer than the answer
 //! keeps its rest. There is no state, and nothing is allocated.
 //!
-//! `enc` and `mac` are the two master keys of the vault, 32 bytes each. Nonces
+//! `enc` and `mac` are the two master keys of the vault, 32 bytes each, which
+//! [`unwrap_key`] unwraps from the values in `masterkey.cryptomator`. Nonces
 //! are 12 bytes; they and the content key of a file are the caller's to choose
 //! at random, and never to use twice.
 //!
@@ -35,6 +36,7 @@ mod call;
 mod content;
 #[allow(missing_docs)]
 pub mod ffi;
+mod keys;
 mod names;
 mod refusal;
 
@@ -43,6 +45,7 @@ pub use content::{
     write_file, write_header, OpenedHeader, CHUNK_LEN, CHUNK_OVERHEAD, HEADER_LEN,
     MAX_CLEARTEXT_LEN,
 };
+pub use keys::{unwrap_key, wrap_key, KEY_LEN, WRAPPED_KEY_LEN};
 pub use names::{
     dir_path, open_long_name, open_name, write_name, WrittenName, MAX_FULL_LEN, MAX_NAME_LEN,
     MAX_STORED_LEN, PATH_LEN,

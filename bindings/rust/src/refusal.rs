@@ -3,8 +3,8 @@
 use std::error::Error;
 use std::fmt::{self, Display, Formatter};
 
-/// The twelve refusals, in the order in which a call tries those that speak of
-/// its input, but that a name that is opened gets row 3 last. A refused call has
+/// The refusals, in the order in which a call tries those that speak of its
+/// input, but that a name that is opened gets row 3 last. A refused call has
 /// changed no buffer.
 #[derive(Clone, Copy, Debug, PartialEq, Eq, Hash)]
 pub enum Refusal {
@@ -20,7 +20,7 @@ pub enum Refusal {
     Name,
     /// Row 4: no file has this length, or the cleartext is over 16,777,216
     /// bytes; a header is not 68 bytes; a chunk's cleartext is not 1 to 32,768
-    /// bytes, or its stored form not 29 to 32,796.
+    /// bytes, or its stored form not 29 to 32,796; a wrapped key is not 40.
     Length,
     /// Row 5: the text of the (full) name is broken, or over 220 characters
     /// where the name is stored as it is.
@@ -41,10 +41,13 @@ pub enum Refusal {
     HashName,
     /// Row 12: the synthetic IV doesn't match.
     SyntheticIv,
+    /// Row 20: the check value of a wrapped key is wrong, as another
+    /// key-encryption key (a mistyped password) or damage can cause.
+    CheckValue,
 }
 
 impl Refusal {
-    /// The row of the table of refusals, from 1 to 12.
+    /// The row of the table of refusals: 1 to 12, or 20.
     pub fn row(self) -> u32 {
         match self {
             Refusal::KeyOrNonceSize => 1,
@@ -59,10 +62,11 @@ impl Refusal {
             Refusal::Chunk(_) => 10,
             Refusal::HashName => 11,
             Refusal::SyntheticIv => 12,
+            Refusal::CheckValue => 20,
         }
     }
 
-    /// The refusal with this row, which is from 1 to 12, at this chunk.
+    /// The refusal of a row of the table; `at` is the chunk of row 10.
     pub(crate) fn new(row: u32, at: u64) -> Self {
         match row {
             1 => Refusal::KeyOrNonceSize,
@@ -77,7 +81,8 @@ impl Refusal {
             10 => Refusal::Chunk(at),
             11 => Refusal::HashName,
             12 => Refusal::SyntheticIv,
-            _ => unreachable!("the library gives rows from 1 to 12, and not {row}"),
+            20 => Refusal::CheckValue,
+            _ => unreachable!("the library has no row {row}"),
         }
     }
 }
@@ -97,6 +102,7 @@ impl Display for Refusal {
             Refusal::Chunk(number) => return write!(f, "chunk {number} is not genuine"),
             Refusal::HashName => "the full name does not belong to the stored name",
             Refusal::SyntheticIv => "the name is not genuine",
+            Refusal::CheckValue => "the wrapped key is not genuine",
         })
     }
 }
@@ -107,9 +113,11 @@ impl Error for Refusal {}
 mod tests {
     use super::*;
 
+    const ROWS: [u32; 13] = [1, 2, 3, 4, 5, 6, 7, 8, 9, 10, 11, 12, 20];
+
     #[test]
     fn rows() {
-        for row in 1..=12 {
+        for row in ROWS {
             assert_eq!(Refusal::new(row, 7).row(), row);
         }
         assert_eq!(Refusal::new(10, u64::MAX), Refusal::Chunk(u64::MAX));
@@ -117,12 +125,10 @@ mod tests {
 
     #[test]
     fn texts() {
-        let mut texts: Vec<_> = (1..=12)
-            .map(|row| Refusal::new(row, 3).to_string())
-            .collect();
+        let mut texts = ROWS.map(|row| Refusal::new(row, 3).to_string()).to_vec();
         assert_eq!(texts[9], "chunk 3 is not genuine");
         texts.sort();
         texts.dedup();
-        assert_eq!(texts.len(), 12);
+        assert_eq!(texts.len(), ROWS.len());
     }
 }

@@ -101,6 +101,28 @@ fn headers() {
     assert_eq!(open(&MAC, &flipped(&header, 20), 32), 9);
 }
 
+#[test]
+fn keys() {
+    let (kek, key) = ([5; KEY_LEN], [6; KEY_LEN]);
+    let wrapped = done(WRAPPED_KEY_LEN, |out| wrap_key(&kek, &key, out));
+    assert_ne!(wrapped[8..], key);
+    let unwrapped = done(KEY_LEN, |out| unwrap_key(&kek, &wrapped, out));
+    assert_eq!(unwrapped, key);
+
+    let wrap = |kek: &[u8], key: &[u8], len| refused(len, |out| wrap_key(kek, key, out));
+    assert_eq!(wrap(&kek[1..], &key, 40), Refusal::KeyOrNonceSize);
+    assert_eq!(wrap(&kek, &key[1..], 40), Refusal::KeyOrNonceSize);
+    assert_eq!(wrap(&kek, &key, 39), Refusal::Room);
+
+    let unwrap =
+        |kek: &[u8], wrapped: &[u8], len| refused(len, |out| unwrap_key(kek, wrapped, out));
+    assert_eq!(unwrap(&kek[1..], &wrapped, 32), Refusal::KeyOrNonceSize);
+    assert_eq!(unwrap(&kek, &wrapped[1..], 32), Refusal::Length);
+    assert_eq!(unwrap(&kek, &wrapped, 31), Refusal::Room);
+    assert_eq!(unwrap(&kek, &flipped(&wrapped, 7), 32), Refusal::CheckValue);
+    assert_eq!(unwrap(&key, &wrapped, 32), Refusal::CheckValue);
+}
+
 /// A header with reserved bytes that all differ, under keys 0, 1, .. and 32,
 /// 33, ..
 #[rustfmt::skip]

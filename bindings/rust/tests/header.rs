@@ -1,5 +1,5 @@
-//! The functions are declared here as they are in `include/skrapnefja.h`, and the
-//! sizes and rows are the same.
+//! The functions are declared here as they are in `include/skrapnefja.h` and in
+//! the library's own source, and the sizes and rows are the same as in C.
 
 use skrapnefja::*;
 use std::collections::BTreeMap;
@@ -7,22 +7,34 @@ use std::collections::BTreeMap;
 const HEADER: &str = include_str!("../../../include/skrapnefja.h");
 const FFI: &str = include_str!("../src/ffi.rs");
 
+/// What the library exports.
+const SOURCES: [&str; 6] = [
+    include_str!("../../../crates/skrapnefja/src/chunk.rt"),
+    include_str!("../../../crates/skrapnefja/src/file.rt"),
+    include_str!("../../../crates/skrapnefja/src/header.rt"),
+    include_str!("../../../crates/skrapnefja/src/key.rt"),
+    include_str!("../../../crates/skrapnefja/src/lengths.rt"),
+    include_str!("../../../crates/skrapnefja/src/name.rt"),
+];
+
 /// Each function with its parameters, as Rust declares them.
 type Functions = BTreeMap<String, Vec<String>>;
 
 #[test]
 fn same_functions() {
     let (c, rust) = (c_functions(), rust_functions());
-    assert_eq!(c.len(), 13);
+    assert_eq!(c.len(), 15);
     assert_eq!(rust, c);
+    assert_eq!(exported_functions(), c);
 }
 
 #[test]
 fn same_sizes() {
     let c = c_sizes();
-    assert_eq!(c.len(), 11);
+    assert_eq!(c.len(), 12);
     for (name, size) in [
-        ("KEY_SIZE", 32),
+        ("KEY_SIZE", KEY_LEN),
+        ("WRAPPED_KEY_SIZE", WRAPPED_KEY_LEN),
         ("NONCE_SIZE", 12),
         ("DIR_ID_MAX", 36),
         ("HEADER_SIZE", HEADER_LEN),
@@ -58,6 +70,7 @@ fn same_rows() {
         ("CHUNK", Refusal::Chunk(7)),
         ("HASH_NAME", Refusal::HashName),
         ("SYNTHETIC_IV", Refusal::SyntheticIv),
+        ("CHECK_VALUE", Refusal::CheckValue),
     ];
     assert_eq!(rows[0], "SKRAPNEFJA_DONE = 0");
     assert_eq!(rows.len(), 1 + expected.len());
@@ -120,4 +133,33 @@ fn rust_functions() -> Functions {
         (name.to_string(), parameters.map(String::from).collect())
     });
     parsed.collect()
+}
+
+fn exported_functions() -> Functions {
+    let declarations = SOURCES.iter().flat_map(|source| {
+        let declarations = source.split("pub extern \"C\" fn skrapnefja_");
+        declarations.skip(1)
+    });
+    let parsed = declarations.map(|text| {
+        let (name, rest) = text.split_once('(').expect("parameters");
+        let (parameters, _) = rest.split_once(") -> u32").expect("an end");
+        let parameters = parameters.split(',').map(str::trim);
+        let parameters = parameters.filter(|text| !text.is_empty());
+        let parameters = parameters.flat_map(exported_parameter).collect();
+        (name.to_string(), parameters)
+    });
+    parsed.collect()
+}
+
+/// A slice is a pointer and a length. What C calls `length` is `written` there.
+fn exported_parameter(text: &str) -> Vec<String> {
+    let (name, kind) = text.split_once(": ").expect("a type");
+    let name = if name == "written" { "length" } else { name };
+    match kind {
+        "&[u8]" => vec![format!("{name}: *const u8"), format!("{name}_len: usize")],
+        "&mut [u8]" => vec![format!("{name}: *mut u8"), format!("{name}_len: usize")],
+        "&mut u64" => vec![format!("{name}: *mut u64")],
+        "u64" => vec![format!("{name}: u64")],
+        kind => panic!("another type: {kind}"),
+    }
 }

@@ -86,7 +86,7 @@ pub fn equal(x: Block, y: Block) -> bool
 }
 
 // The words of the schedule that the round n adds.
-fn round_key(w: &[u32], n: usize) -> Block
+pub fn round_key(w: &[u32], n: usize) -> Block
     requires { ⌜ 4 * n + 4 ≤ length (now w) ⌝ }
     ensures { λ r. ⌜ (r .a ≡ getD (now (w .entry)) (4 * n) 0) × (r .b ≡ getD (now (w .entry)) (4 * n + 1) 0) × (r .c ≡ getD (now (w .entry)) (4 * n + 2) 0) × (r .d ≡ getD (now (w .entry)) (4 * n + 3) 0) ⌝ }
 {

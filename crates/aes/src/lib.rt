@@ -1,6 +1,6 @@
 // AES-256 (FIPS 197): the key schedule and the cipher of a block.
 pub mod block;
 pub mod key;
-mod rotate;
+pub mod rotate;
 pub mod round_table;
 pub mod sbox;

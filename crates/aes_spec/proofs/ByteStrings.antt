@@ -23,7 +23,7 @@ use Rattle.aes_spec.specs.Cipher.{subBytes, shiftRows, addRoundKey, afte
 abbrev small : ℕ → Bool
 small x = ltb (getD sboxTable x 0) 256
 
-sbox-byte : (x : ℕ) → sbox x < 256
+pub sbox-byte : (x : ℕ) → sbox x < 256
 unfolding sbox
 sbox-byte x =
     ⊎-elim (λ (h : 256 ≤ x). rw (List·getD-eq-default sboxTable 0 {n = x} h) (lit< tt))
@@ -32,7 +32,7 @@ sbox-byte x =
 
 -- ---- the key expansion
 
-abbrev Words : List ℕ → Type 0
+abbrev pub Words : List ℕ → Type 0
 Words l = Below (2 ^ 32) l
 
 power-byte : (i : ℕ) → powerOfX i < 256
@@ -68,7 +68,7 @@ unfolding words
 words-small zero h = below-nil (lit< tt)
 words-small (suc n) h = snoc (words-small n h) (omega (arith, h .at (4 * n), h .at (4 * n + 1), h .at (4 * n + 2), h .at (4 * n + 3)))
 
-expansion-words : (nk : ℕ) {key : List ℕ} → Bytes key → (n : ℕ) → Words (expansion nk key n)
+pub expansion-words : (nk : ℕ) {key : List ℕ} → Bytes key → (n : ℕ) → Words (expansion nk key n)
 unfolding expansion
 expansion-words nk h zero = words-small nk h
 expansion-words nk {key} h (suc n) =
@@ -90,7 +90,7 @@ shifted-bytes h =
     (below-cons (h .at 8) (below-cons (h .at 13) (below-cons (h .at 2) (below-cons (h .at 7)
     (below-cons (h .at 12) (below-cons (h .at 1) (below-cons (h .at 6) (below-cons (h .at 11) (below-nil (lit< tt)))))))))))))))))
 
-key-added : {w s : List ℕ} (r : ℕ) → Words w → Bytes s → Bytes (addRoundKey w r s)
+pub key-added : {w s : List ℕ} (r : ℕ) → Words w → Bytes s → Bytes (addRoundKey w r s)
 unfolding addRoundKey
 key-added r h k =
     bytes-xors k (bytes-wordBytes (below-cons (h .at (4 * r)) (below-cons (h .at (4 * r + 1)) (below-cons (h .at (4 * r + 2)) (below-cons (h .at (4 * r + 3)) (below-nil (lit< tt)))))))

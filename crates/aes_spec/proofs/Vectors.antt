@@ -14,7 +14,7 @@ use Rattle.aes_spec.specs.KeyExpansion.{subWord, rotWord, powerOfX, rcon
 use Rattle.aes_spec.specs.Cipher.{subBytes, shiftRows, mixColumns, addRoundKey, afterRounds, cipher, aes}
 
 -- The bytes 00, 01, .. of a key, and the bytes 00, 11, .. ff of a block.
-abbrev key : ℕ → List ℕ
+abbrev pub key : ℕ → List ℕ
 key n = upto n 0
   where
     upto : ℕ → ℕ → List ℕ

@@ -8,7 +8,7 @@ use native.Mathlib.Nat.{not-suc-le-zero, le-of-suc-le-suc, add-zero}
 use native.Mathlib.Numerals.{add-one}
 use native.Mathlib.Decide.{decLe}
 use native.Mathlib.Omega.{arith}
-use lib.ListN.{length, take, drop, getD, set, replicate, length-append, length-take, length-drop}
+use lib.ListN.{length, take, drop, getD, set, replicate, length-append, length-take, length-drop, take-append-drop}
 use lib.Seq.{take-all, take-at, drop-at, take-add, drop-append-add, drop-drop, length-take-le, getD-append-add, getD-drop, paste, take-paste, length-paste-head}
 use Rattle.octets.specs.Bytes.{filled, placed}
 
@@ -67,6 +67,18 @@ fill-part s d p i w k l q =
     let e : i + w - i ≡ w = omega arith in
     let f : take i s ++ p ≡ take (i + w) s = ap (λ (l : List ℕ). take i s ++ l) q ∙ sym (take-add i w s) in
     rw (a, b, e, drop-drop, ← append-assoc, f)
+
+-- The first n places of a buffer d were lent, and hold p now.
+module _ (p d : List ℕ) (n : ℕ) where
+  -- what was written is s
+  pub front-filled : (s : List ℕ) → length p ≡ length (take n d) → p ≡ s → p ++ drop n d ≡ filled s n d
+  front-filled s l e =
+      let h : length p ≤ n = omega (arith, length-take n d) in
+      ap (λ (x : List ℕ). x ++ drop n d) (sym (take-all n p h) ∙ ap (take n) e)
+
+  -- nothing was written
+  pub front-kept : p ≡ take n d → p ++ drop n d ≡ d
+  front-kept e = ap (λ (x : List ℕ). x ++ drop n d) e ∙ take-append-drop n d
 
 -- The part from a place to the end.
 pub part-rest : (l : List ℕ) (n a : ℕ) → length l ≡ n → take (n - a) (drop a l) ≡ drop a l

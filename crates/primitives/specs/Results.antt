@@ -7,6 +7,7 @@ use lib.Dec.{eqb, ltb, leb}
 use lib.ListN.{length}
 use Rattle.octets.specs.Bytes.{placed}
 use Rattle.aes_spec.specs.Cipher.{aes}
+use Rattle.aes_inverse.specs.InverseCipher.{inverseAes}
 use Rattle.gcm.specs.Gcm.{seal, good, plain}
 use Rattle.encoding.specs.Base32 as base32
 use Rattle.encoding.specs.Base64url as base64url
@@ -26,8 +27,15 @@ end status buffer = record { status = status; buffer = buffer }
 unfoldable pub doneIf : Bool → List ℕ → List ℕ → End
 doneIf test s d = cond test (end 1 (placed s 0 d)) (end 0 d)
 
+-- The sizes that AES-256 takes of a key, a block and a buffer.
+unfoldable pub aesFits : List ℕ → List ℕ → List ℕ → Bool
+aesFits key block d = eqb (length key) 32 && eqb (length block) 16 && leb 16 (length d)
+
 unfoldable pub aes256 : List ℕ → List ℕ → List ℕ → End
-aes256 key block d = doneIf (eqb (length key) 32 && eqb (length block) 16 && leb 16 (length d)) (aes 8 key block) d
+aes256 key block d = doneIf (aesFits key block d) (aes 8 key block) d
+
+unfoldable pub aes256Decrypt : List ℕ → List ℕ → List ℕ → End
+aes256Decrypt key block d = doneIf (aesFits key block d) (inverseAes 8 key block) d
 
 -- The sizes that GCM takes here, of a text of n bytes. SP 800-38D, 5.2.1.1: fewer than 2^61 bytes of associated data, and at
 -- most 2^36 - 32 of text.

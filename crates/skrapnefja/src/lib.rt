@@ -5,5 +5,6 @@ pub mod chunk;
 mod ending;
 pub mod file;
 pub mod header;
+pub mod key;
 pub mod lengths;
 pub mod name;

@@ -7,6 +7,8 @@ use content::header::write_header;
 use file_read::open_file;
 use file_read::read_range;
 use file_write::write_file;
+use key_wrap::unwrap_key;
+use key_wrap::wrap_key;
 use libc::STDOUT_FILENO;
 use names::opener::open_long_name;
 use names::opener::open_name;
@@ -15,6 +17,7 @@ use names::writer::write_name;
 use primitives::authenticated::primitives_gcm_open;
 use primitives::authenticated::primitives_gcm_seal;
 use primitives::cipher::primitives_aes256;
+use primitives::cipher::primitives_aes256_decrypt;
 use primitives::deterministic::primitives_cmac256;
 use primitives::deterministic::primitives_siv_open;
 use primitives::deterministic::primitives_siv_seal;
@@ -39,7 +42,7 @@ fn line(bytes: &[u8]) {
     io::write_all(STDOUT_FILENO, b"\n");
 }
 
-// FIPS 197, the example cipher for a key of 256 bits.
+// FIPS 197, the example cipher for a key of 256 bits, and its inverse.
 fn aes256() {
     let key =
         b"\x00\x01\x02\x03\x04\x05\x06\x07\x08\x09\x0a\x0b\x0c\x0d\x0e\x0f\x10\x11\x12\x13\x14\x15\x16\x17\x18\x19\x1a\x1b\x1c\x1d\x1e\x1f";
@@ -47,6 +50,9 @@ fn aes256() {
     let mut out = [0u8; 16];
     primitives_aes256(key, block, &mut out);
     print(&out);
+    let mut back = [0u8; 16];
+    primitives_aes256_decrypt(key, &out, &mut back);
+    print(&back);
 }
 
 // The test case 16 of the GCM submission to NIST: the sealed text, and what it opens to.
@@ -110,6 +116,25 @@ fn text() {
     line(&base64url);
 }
 
+// A wrapped key, and what it unwraps to.
+fn wrapped(kek: &[u8], key: &[u8]) {
+    let mut wrapped = [0u8; 40];
+    wrap_key(kek, key, &mut wrapped);
+    print(&wrapped);
+    let mut unwrapped = [0u8; 32];
+    unwrap_key(kek, &wrapped, &mut unwrapped);
+    print(&unwrapped);
+}
+
+// RFC 3394, 4.6: a key of 256 bits under another.
+fn key_wrap() {
+    let kek =
+        b"\x00\x01\x02\x03\x04\x05\x06\x07\x08\x09\x0a\x0b\x0c\x0d\x0e\x0f\x10\x11\x12\x13\x14\x15\x16\x17\x18\x19\x1a\x1b\x1c\x1d\x1e\x1f";
+    let key =
+        b"\x00\x11\x22\x33\x44\x55\x66\x77\x88\x99\xaa\xbb\xcc\xdd\xee\xff\x00\x01\x02\x03\x04\x05\x06\x07\x08\x09\x0a\x0b\x0c\x0d\x0e\x0f";
+    wrapped(kek, key);
+}
+
 // Whether a text is proper, as a digit.
 fn told(text: &[u8]) {
     io::print_hex(STDOUT_FILENO, primitives_proper_text(text) as u64, 1);
@@ -168,6 +193,14 @@ fn stock_path() {
     let mut out = [0u8; 36];
     dir_path(&enc, &mac, b"", &mut out);
     line(&out);
+}
+
+// The stock program's master key, 32 zeros, under the key-encryption key of its tests.
+fn stock_master_key() {
+    let kek =
+        b"\x8c\xf4\xa0\x4e\xc8\x45\xf4\x28\xb2\xf9\xf9\xe1\xd9\xdf\x08\xd2\x62\x11\xd9\xaf\xe2\xf5\x5f\xde\xdf\xcb\xb5\xe7\x5a\xef\x34\xf9";
+    let key = [0u8; 32];
+    wrapped(kek, &key);
 }
 
 // The content key and the reserved bytes that a header opens to.
@@ -277,6 +310,7 @@ fn distinct() {
     path(enc, mac, id);
     name(enc, mac, id);
     long_names(enc, mac, id);
+    wrapped(enc, content_key);
 }
 
 fn main() {
@@ -287,9 +321,11 @@ fn main() {
     sha1();
     text();
     utf8();
+    key_wrap();
     stock_header();
     stock_chunk();
     stock_file();
     stock_path();
+    stock_master_key();
     distinct();
 }

@@ -2,6 +2,7 @@
 //! much stack the library takes.
 
 mod inputs;
+mod keys;
 mod long_names;
 mod parts;
 #[expect(dead_code, reason = "only GCM is timed by itself")]
@@ -31,6 +32,7 @@ fn main() {
     );
     vault::run();
     long_names::run();
+    keys::run();
     println!();
     parts::run();
     println!();

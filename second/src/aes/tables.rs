@@ -3,9 +3,15 @@
 /// SubBytes of one byte.
 pub static S_BOX: [u8; 256] = s_box();
 
+/// InvSubBytes of one byte.
+pub static INV_S_BOX: [u8; 256] = inv_s_box();
+
 /// `T[row][byte]` is what a byte in that row adds to its column by SubBytes
 /// and MixColumns.
-pub static T: [[u32; 256]; 4] = [t_table(0), t_table(1), t_table(2), t_table(3)];
+pub static T: [[u32; 256]; 4] = column_tables(&S_BOX, [2, 1, 1, 3]);
+
+/// The same by InvSubBytes and InvMixColumns.
+pub static INV_T: [[u32; 256]; 4] = column_tables(&INV_S_BOX, [0x0e, 0x09, 0x0d, 0x0b]);
 
 /// Multiplies by x modulo x^8 + x^4 + x^3 + x + 1.
 pub const fn double(a: u8) -> u8 {
@@ -53,16 +59,39 @@ const fn s_box() -> [u8; 256] {
     table
 }
 
-const fn t_table(row: u32) -> [u32; 256] {
+const fn inv_s_box() -> [u8; 256] {
     let mut table = [0; 256];
     let mut i = 0;
     while i < 256 {
-        let s = S_BOX[i];
-        let column = u32::from_be_bytes([double(s), s, s, double(s) ^ s]);
-        table[i] = column.rotate_right(8 * row);
+        table[S_BOX[i] as usize] = i as u8;
         i += 1;
     }
     table
+}
+
+/// The tables of a substitution and of the matrix with these factors in its
+/// first column. Each further column is the one before, moved down by a row.
+const fn column_tables(s_box: &[u8; 256], factors: [u8; 4]) -> [[u32; 256]; 4] {
+    let [a, b, c, d] = factors;
+    let mut tables = [[0; 256]; 4];
+    let mut i = 0;
+    while i < 256 {
+        let s = s_box[i];
+        let products = [
+            multiply(s, a),
+            multiply(s, b),
+            multiply(s, c),
+            multiply(s, d),
+        ];
+        let column = u32::from_be_bytes(products);
+        let mut row = 0;
+        while row < 4 {
+            tables[row][i] = column.rotate_right(8 * row as u32);
+            row += 1;
+        }
+        i += 1;
+    }
+    tables
 }
 
 #[cfg(test)]
@@ -83,5 +112,27 @@ mod tests {
         let inputs = [0x53, 0x00, 0x0f, 0xf0, 0xff];
         let outputs = [0xed, 0x63, 0x76, 0x8c, 0x16];
         assert_eq!(inputs.map(|i: usize| S_BOX[i]), outputs);
+    }
+
+    /// FIPS 197, the corners of figure 14 of the edition of 2001.
+    #[test]
+    fn inv_s_box_examples() {
+        let inputs = [0x00, 0x0f, 0xf0, 0xff];
+        let outputs = [0x52, 0xfb, 0x17, 0x7d];
+        assert_eq!(inputs.map(|i: usize| INV_S_BOX[i]), outputs);
+    }
+
+    /// MixColumns of what InvMixColumns makes of one byte is this byte.
+    #[test]
+    fn matrices_undo_each_other() {
+        for row in 0..4 {
+            for byte in 0..=255 {
+                let column = INV_T[row][usize::from(S_BOX[usize::from(byte)])].to_be_bytes();
+                let mixed = (0..4).map(|i| T[i][usize::from(INV_S_BOX[usize::from(column[i])])]);
+                let mut single = [0; 4];
+                single[row] = byte;
+                assert_eq!(mixed.fold(0, |a, b| a ^ b), u32::from_be_bytes(single));
+            }
+        }
     }
 }

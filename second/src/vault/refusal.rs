@@ -10,7 +10,7 @@ pub enum Refusal {
     DirectoryId,
     /// The name has no bytes or more than 1,020, or is not proper text.
     Name,
-    /// No file, header or chunk has this length.
+    /// No file, header, chunk or wrapped key has this length.
     Length,
     /// The text form of the name is broken, or too long for a plain one.
     Text,
@@ -29,6 +29,8 @@ pub enum Refusal {
     HashName,
     /// The synthetic IV is not that of the name.
     SyntheticIv,
+    /// The check value of the wrapped key is wrong.
+    CheckValue,
 }
 
 impl Refusal {
@@ -46,6 +48,7 @@ impl Refusal {
             Refusal::Chunk(_) => 10,
             Refusal::HashName => 11,
             Refusal::SyntheticIv => 12,
+            Refusal::CheckValue => 20,
         }
     }
 

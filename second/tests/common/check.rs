@@ -25,6 +25,12 @@ pub fn aes256(key: &[u8], block: &[u8], out: &[u8]) -> bool {
     compare("aes256", &[key, block], answer, out, call)
 }
 
+pub fn aes256_decrypt(key: &[u8], block: &[u8], out: &[u8]) -> bool {
+    let answer = sized(key, block).map(|(key, block)| Aes256::new(key).decrypt(block).to_vec());
+    let call = |out: &mut _| primitives::aes256_decrypt(key, block, out);
+    compare("aes256_decrypt", &[key, block], answer, out, call)
+}
+
 pub fn gcm_seal(key: &[u8], nonce: &[u8], aad: &[u8], cleartext: &[u8], out: &[u8]) -> bool {
     let answer = sized(key, nonce).map(|(key, nonce)| gcm::seal(key, nonce, aad, cleartext));
     let call = |out: &mut _| primitives::gcm_seal(key, nonce, aad, cleartext, out);

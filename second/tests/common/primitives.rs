@@ -55,6 +55,7 @@ macro_rules! functions {
 
 functions! {
     primitives_aes256 as aes256(key: input, block: input, out: buffer);
+    primitives_aes256_decrypt as aes256_decrypt(key: input, block: input, out: buffer);
     primitives_gcm_seal as gcm_seal(
         key: input, nonce: input, aad: input, cleartext: input, out: buffer);
     primitives_gcm_open as gcm_open(

@@ -36,6 +36,7 @@ fn aes_and_gcm() {
         let [key, nonce, aad, cleartext, sealed] = inputs;
         let out = random.array::<66>();
         assert!(check::aes256(key, &cleartext[..BLOCK_LEN], &out));
+        assert!(check::aes256_decrypt(key, &cleartext[..BLOCK_LEN], &out));
         assert!(check::gcm_seal(key, nonce, aad, cleartext, &out));
         assert!(check::gcm_open(key, nonce, aad, sealed, &out));
     }

@@ -1,15 +1,23 @@
-//! AES-256.
+//! AES-256, encryption and decryption.
 
-use crate::common::check;
-use crate::common::random::Random;
+use crate::common::primitives::{self, DONE};
+use crate::common::{check, random::Random};
 use second::aes::{BLOCK_LEN, KEY_LEN};
+
+/// A comparison by the key, the block and the buffer.
+type Check = fn(&[u8], &[u8], &[u8]) -> bool;
+
+const WAYS: [Check; 2] = [check::aes256, check::aes256_decrypt];
 
 #[test]
 fn random_blocks() {
     let mut random = Random::new(1);
     for _ in 0..200_000 {
         let [key, block] = [KEY_LEN, BLOCK_LEN].map(|len| random.bytes(len));
-        assert!(check::aes256(&key, &block, &random.array::<BLOCK_LEN>()));
+        let out = random.array::<BLOCK_LEN>();
+        for check in WAYS {
+            assert!(check(&key, &block, &out));
+        }
     }
 }
 
@@ -21,8 +29,27 @@ fn single_bits() {
             let mut bytes = [filling; KEY_LEN + BLOCK_LEN];
             bytes[bit / 8] ^= 1 << (bit % 8);
             let (key, block) = bytes.split_at(KEY_LEN);
-            assert!(check::aes256(key, block, &[0xa5; BLOCK_LEN]));
+            for check in WAYS {
+                assert!(check(key, block, &[0xa5; BLOCK_LEN]));
+            }
         }
+    }
+}
+
+/// Each way undoes the other.
+#[test]
+fn there_and_back() {
+    let mut random = Random::new(3);
+    for _ in 0..50_000 {
+        let (key, block) = (random.array::<KEY_LEN>(), random.array::<BLOCK_LEN>());
+        let (mut there, mut back) = ([0xa5; BLOCK_LEN], [0xa5; BLOCK_LEN]);
+        assert_eq!(primitives::aes256(&key, &block, &mut there), DONE);
+        assert_eq!(primitives::aes256_decrypt(&key, &there, &mut back), DONE);
+        assert_eq!(back, block);
+
+        assert_eq!(primitives::aes256_decrypt(&key, &block, &mut there), DONE);
+        assert_eq!(primitives::aes256(&key, &there, &mut back), DONE);
+        assert_eq!(back, block);
     }
 }
 
@@ -34,7 +61,9 @@ fn all_sizes() {
             for out_len in 0..=20 {
                 let [key, block, out] = [key_len, block_len, out_len].map(|len| random.bytes(len));
                 let right = key_len == KEY_LEN && block_len == BLOCK_LEN && out_len >= BLOCK_LEN;
-                assert_eq!(check::aes256(&key, &block, &out), right);
+                for check in WAYS {
+                    assert_eq!(check(&key, &block, &out), right);
+                }
             }
         }
     }

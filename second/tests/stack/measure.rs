@@ -4,7 +4,7 @@
 //! that no longer has this byte after the call is what it used, together with
 //! the little that getting there takes. This is for x86-64, as the library is.
 
-use skrapnefja::{MAX_FULL_LEN, MAX_NAME_LEN, MAX_STORED_LEN};
+use skrapnefja::{KEY_LEN, MAX_FULL_LEN, MAX_NAME_LEN, MAX_STORED_LEN, WRAPPED_KEY_LEN};
 use std::arch::asm;
 use std::ffi::c_void;
 
@@ -34,7 +34,7 @@ pub fn run() {
     );
     let nothing = used(|| ());
     let mut deepest = 0;
-    for (name, bytes) in calls() {
+    for (name, bytes) in calls().into_iter().chain(key_calls()) {
         println!("{name:40} {bytes:9} bytes");
         deepest = deepest.max(bytes);
     }
@@ -151,6 +151,23 @@ fn calls() -> Vec<(&'static str, usize)> {
         (
             "cleartext_length",
             done(1, || skrapnefja::cleartext_length(97)),
+        ),
+    ]
+}
+
+/// The same of the calls on wrapped keys.
+fn key_calls() -> [(&'static str, usize); 2] {
+    let (mut wrapped, mut key) = ([0; WRAPPED_KEY_LEN], [0; KEY_LEN]);
+    [
+        (
+            "wrap_key",
+            done(WRAPPED_KEY_LEN, || {
+                skrapnefja::wrap_key(&ENC, &CONTENT_KEY, &mut wrapped)
+            }),
+        ),
+        (
+            "unwrap_key",
+            done(KEY_LEN, || skrapnefja::unwrap_key(&ENC, &wrapped, &mut key)),
         ),
     ]
 }

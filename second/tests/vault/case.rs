@@ -15,10 +15,12 @@ pub enum Call {
     DirPath,
     FileLength,
     CleartextLength,
+    WrapKey,
+    UnwrapKey,
 }
 
 impl Call {
-    pub const ALL: [Call; 13] = [
+    pub const ALL: [Call; 15] = [
         Call::WriteHeader,
         Call::OpenHeader,
         Call::WriteChunk,
@@ -32,6 +34,8 @@ impl Call {
         Call::DirPath,
         Call::FileLength,
         Call::CleartextLength,
+        Call::WrapKey,
+        Call::UnwrapKey,
     ];
 
     /// The rows that the call looks at, in the order in which it tries them.
@@ -49,6 +53,8 @@ impl Call {
             Call::OpenLongName => &[1, 2, 5, 7, 11, 12, 3],
             Call::DirPath => &[1, 2, 7],
             Call::FileLength | Call::CleartextLength => &[4],
+            Call::WrapKey => &[1, 7],
+            Call::UnwrapKey => &[1, 4, 7, 20],
         }
     }
 }

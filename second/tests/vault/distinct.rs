@@ -32,13 +32,18 @@ fn values(compare: &mut Compare) {
                 known::not_text(compare, inputs, texts);
             }
             ["path", id, path] => known::path(compare, [enc(), mac(), directory(id)], path),
+            ["wrapped", wrapped] => {
+                known::wrapped_key(compare, [enc(), content_key()], bytes(wrapped));
+            }
             _ => panic!("not a value: {fields:?}"),
         }
         kinds.push(fields[0]);
     }
     let count = |kind| kinds.iter().filter(|&&other| other == kind).count();
-    let counts = ["header", "reserved", "chunk", "name", "sealed", "path"].map(count);
-    assert_eq!(counts, [1, 1, 2, 10, 3, 2]);
+    let all = [
+        "header", "reserved", "chunk", "name", "sealed", "path", "wrapped",
+    ];
+    assert_eq!(all.map(count), [1, 1, 2, 10, 3, 2, 1]);
 }
 
 /// The reserved bytes are not those that our writers write; they are returned,

@@ -9,6 +9,7 @@ pub const PARTS: &[Part] = &[
     ("exchange: files", files),
     ("exchange: headers and chunks", headers_and_chunks),
     ("exchange: names", names),
+    ("exchange: keys", keys),
 ];
 
 /// One of the two programs.
@@ -99,6 +100,17 @@ fn names(compare: &mut Compare) {
             }
             let inputs = [&write.inputs[..3], &texts].concat();
             opens(compare, reader, call, inputs, &write.inputs[3]);
+        }
+    }
+}
+
+fn keys(compare: &mut Compare) {
+    for _ in 0..500 {
+        for (writer, reader) in WAYS {
+            let wrap = make::wrap_key(&mut compare.random);
+            let wrapped = written(compare, writer, &wrap).swap_remove(0);
+            let inputs = vec![wrap.inputs[0].clone(), wrapped];
+            opens(compare, reader, Call::UnwrapKey, inputs, &wrap.inputs[1]);
         }
     }
 }

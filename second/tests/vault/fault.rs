@@ -6,6 +6,8 @@ mod room;
 
 use crate::case::{Call, Case};
 use crate::common::random::Random;
+use crate::make;
+use second::key_wrap::INITIAL_VALUE;
 
 pub use names::stray;
 
@@ -26,6 +28,7 @@ pub fn spoil(case: &mut Case, row: u32, random: &mut Random) -> bool {
         10 => return content::chunk(case, random),
         11 => names::hash_name(case, random),
         12 => return names::synthetic_iv(case, random),
+        20 => check_value(case, random),
         _ => panic!("there is no row {row}"),
     }
     true
@@ -37,6 +40,7 @@ fn key_or_nonce(case: &mut Case, random: &mut Random) {
         Call::WriteHeader => 4,
         Call::WriteChunk => 3,
         Call::WriteFile => 5,
+        Call::UnwrapKey => 1,
         _ => 2,
     };
     let input = &mut case.inputs[random.below(count)];
@@ -49,6 +53,19 @@ fn key_or_nonce(case: &mut Case, random: &mut Random) {
         _ => 12,
     };
     resize(input, other, random);
+}
+
+/// Another bit of the key-encryption key or of the wrapped key, or a key that
+/// was wrapped from another check value.
+fn check_value(case: &mut Case, random: &mut Random) {
+    match random.below(3) {
+        0 => flip(&mut case.inputs[0], random),
+        1 => flip(&mut case.inputs[1], random),
+        _ => {
+            let other = INITIAL_VALUE ^ 1 << random.below(64);
+            case.inputs[1] = make::wrapped_from(&case.inputs[0], other, &random.bytes(32));
+        }
+    }
 }
 
 /// Flips one bit.

@@ -69,6 +69,13 @@ pub fn path(compare: &mut Compare, inputs: [Vec<u8>; 3], path: &str) {
     fills(compare, Call::DirPath, &inputs, &[], &[path.as_bytes()]);
 }
 
+/// The wrapped key of a key-encryption key and a key.
+pub fn wrapped_key(compare: &mut Compare, inputs: [Vec<u8>; 2], wrapped: Vec<u8>) {
+    fills(compare, Call::WrapKey, &inputs, &[], &[&wrapped]);
+    let [kek, key] = inputs;
+    fills(compare, Call::UnwrapKey, &[kek, wrapped], &[], &[&key]);
+}
+
 /// Fails unless the call fills buffers of their sizes with these answers.
 fn fills(
     compare: &mut Compare,

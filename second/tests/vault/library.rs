@@ -128,6 +128,12 @@ fn run(
             (Call::CleartextLength, [], &[number], []) => {
                 call!(skrapnefja_cleartext_length: val number, val length,)
             }
+            (Call::WrapKey, [kek, key], [], [out]) => {
+                call!(skrapnefja_wrap_key: in kek, in key, out out, val length,)
+            }
+            (Call::UnwrapKey, [kek, wrapped], [], [out]) => {
+                call!(skrapnefja_unwrap_key: in kek, in wrapped, out out, val length,)
+            }
             _ => panic!("not what {:?} takes", case.call),
         }
     }

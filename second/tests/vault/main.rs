@@ -24,6 +24,7 @@ mod exchange;
 mod fault;
 mod files;
 mod headers;
+mod keys;
 mod known;
 mod lengths;
 mod library;
@@ -51,7 +52,7 @@ use tally::Tally;
 
 type Part = (&'static str, fn(&mut Compare));
 
-const PARTS: [&[Part]; 14] = [
+const PARTS: [&[Part]; 15] = [
     longest::PARTS,
     files::PARTS,
     ranges::PARTS,
@@ -62,6 +63,7 @@ const PARTS: [&[Part]; 14] = [
     order::PARTS,
     exchange::PARTS,
     headers::PARTS,
+    keys::PARTS,
     lengths::PARTS,
     points::PARTS,
     stock_program::PARTS,

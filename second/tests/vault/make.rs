@@ -1,6 +1,7 @@
 //! Cases in which no row applies.
 
 mod content;
+mod keys;
 mod names;
 mod sizes;
 
@@ -9,6 +10,7 @@ use crate::common::random::Random;
 use second::vault::{self, CHUNK_LEN};
 
 pub use content::*;
+pub use keys::*;
 pub use names::*;
 use sizes::{chunk_len, file_len, name_len, range};
 
@@ -17,6 +19,7 @@ pub const HEADER: usize = 68;
 pub const LONGEST_PLAIN: usize = 146;
 pub const LONGEST_NAME: usize = 1020;
 pub const LONGEST_FULL_NAME: usize = 1388;
+pub const WRAPPED_KEY: usize = 40;
 
 pub fn case(call: Call, random: &mut Random) -> Case {
     match call {
@@ -61,6 +64,8 @@ pub fn case(call: Call, random: &mut Random) -> Case {
             let length = vault::file_length(random.below(16_777_217) as u64);
             number(call, length.expect("within the limit"))
         }
+        Call::WrapKey => wrap_key(random),
+        Call::UnwrapKey => unwrap_key(random),
     }
 }
 

@@ -59,6 +59,8 @@ fn run(case: &Case, buffers: &mut [Vec<u8>]) -> Result<(u64, Option<u64>), Refus
         (Call::CleartextLength, [], &[length], []) => {
             return Ok((vault::cleartext_length(length)?, None))
         }
+        (Call::WrapKey, [kek, key], [], [out]) => vault::wrap_key(kek, key, out),
+        (Call::UnwrapKey, [kek, wrapped], [], [out]) => vault::unwrap_key(kek, wrapped, out),
         _ => panic!("not what {:?} takes", case.call),
     };
     Ok((length? as u64, None))

@@ -23,11 +23,14 @@ fn values(compare: &mut Compare) {
             ["path", enc, mac, id, path] => {
                 known::path(compare, [enc, mac, id].map(bytes), path);
             }
+            ["masterkey", kek, wrapped, key] => {
+                known::wrapped_key(compare, [kek, key].map(bytes), base64(wrapped));
+            }
             _ => panic!("not a value: {fields:?}"),
         }
         kinds.push(fields[0]);
     }
-    assert_eq!(kinds, ["header", "chunk", "path"]);
+    assert_eq!(kinds, ["header", "chunk", "path", "masterkey"]);
 }
 
 /// Base 64 with the alphabet that is not safe for URLs.

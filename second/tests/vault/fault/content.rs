@@ -1,17 +1,15 @@
-//! Faults of headers, chunks, files and ranges.
+//! Faults of lengths, and of headers, chunks, files and ranges.
 
 use super::{flip, resize};
 use crate::case::{Call, Case};
 use crate::common::random::Random;
-use crate::make::{HEADER, MAX_CHUNK};
+use crate::make::{HEADER, MAX_CHUNK, WRAPPED_KEY};
 use second::vault::{self, CHUNK_LEN};
 
 pub fn length(case: &mut Case, random: &mut Random) {
     match case.call {
-        Call::OpenHeader => {
-            let len = [random.below(HEADER), HEADER + 1 + random.below(100)][random.below(2)];
-            resize(&mut case.inputs[2], len, random);
-        }
+        Call::OpenHeader => other_than(&mut case.inputs[2], HEADER, random),
+        Call::UnwrapKey => other_than(&mut case.inputs[1], WRAPPED_KEY, random),
         Call::WriteChunk => {
             let len = random.below(2) * (CHUNK_LEN + 1 + random.below(2) * random.below(100));
             resize(&mut case.inputs[3], len, random);
@@ -45,6 +43,12 @@ pub fn length(case: &mut Case, random: &mut Random) {
         }
         call => panic!("{call:?} does not look at lengths"),
     }
+}
+
+/// Any length but the right one.
+fn other_than(input: &mut Vec<u8>, right: usize, random: &mut Random) {
+    let len = [random.below(right), right + 1 + random.below(100)][random.below(2)];
+    resize(input, len, random);
 }
 
 /// A number from this one on, often at the edge or very large.

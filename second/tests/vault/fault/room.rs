@@ -2,7 +2,7 @@
 
 use crate::case::{Call, Case};
 use crate::common::random::Random;
-use crate::make::HEADER;
+use crate::make::{HEADER, WRAPPED_KEY};
 use second::vault::{self, CHUNK_LEN};
 
 /// Makes a buffer too short for what goes into it.
@@ -27,7 +27,7 @@ fn needs(case: &Case) -> Vec<usize> {
     };
     match case.call {
         Call::WriteHeader => vec![HEADER],
-        Call::OpenHeader => vec![32],
+        Call::OpenHeader | Call::UnwrapKey => vec![32],
         Call::WriteChunk => vec![input(3) + 28],
         Call::OpenChunk => vec![input(2) - 28],
         Call::WriteFile => vec![HEADER + input(5) + 28 * input(5).div_ceil(CHUNK_LEN)],
@@ -44,5 +44,6 @@ fn needs(case: &Case) -> Vec<usize> {
         Call::OpenLongName => vec![name(&case.inputs[4])],
         Call::DirPath => vec![36],
         Call::FileLength | Call::CleartextLength => vec![],
+        Call::WrapKey => vec![WRAPPED_KEY],
     }
 }

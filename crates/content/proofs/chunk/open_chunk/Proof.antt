@@ -11,13 +11,14 @@ use lib.Dec.{leb, lit≤}
 use lib.ListN.{length, take}
 use lib.Seq.{length-take-le}
 use Rattle.octets.specs.Rows.{done, refusedAt, ended}
+use Rattle.octets.proofs.Lists.{front-filled, front-kept}
 use Rattle.aes_spec.specs.Cipher.{aes}
 use Rattle.frame.specs.Frame.{headWith, ownHead, headRight}
 use Rattle.frame.specs.Single.{openChunkRows}
 use Rattle.frame.proofs.Single.{single-ends}
 use Rattle.siv_gcm.specs.SivGcm.{sivGcm, opened, codec}
 use Rattle.siv_gcm.proofs.KeySizes.{head-sizes}
-use Rattle.content.proofs.Calls.{within-sizes, front-filled, front-kept}
+use Rattle.content.proofs.Calls.{within-sizes}
 use Rattle.content.proofs.chunk.open_chunk.Statement.{statement}
 use Rattle.content.proofs.chunk.open_chunk.Tie as tie
 

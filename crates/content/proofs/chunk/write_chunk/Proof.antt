@@ -11,13 +11,14 @@ use lib.Dec.{leb, eqb, lit≤}
 use lib.ListN.{length, take}
 use lib.Seq.{length-take-le}
 use Rattle.octets.specs.Rows.{done, ended}
+use Rattle.octets.proofs.Lists.{front-filled}
 use Rattle.aes_spec.specs.Cipher.{aes}
 use Rattle.frame.specs.Frame.{headWith, ownHead, headRight}
 use Rattle.frame.specs.Single.{writeChunkRows}
 use Rattle.frame.proofs.Single.{single-ends}
 use Rattle.siv_gcm.specs.SivGcm.{sivGcm, sealed, chunkData, codec}
 use Rattle.siv_gcm.proofs.KeySizes.{head-sizes}
-use Rattle.content.proofs.Calls.{within-sizes, front-filled}
+use Rattle.content.proofs.Calls.{within-sizes}
 use Rattle.content.proofs.chunk.write_chunk.Statement.{statement}
 use Rattle.content.proofs.chunk.write_chunk.Tie as tie
 

@@ -11,12 +11,12 @@ use lib.Dec.{lit≤}
 use lib.ListN.{length, take}
 use lib.Seq.{length-take-le}
 use Rattle.octets.specs.Rows.{done, ended}
+use Rattle.octets.proofs.Lists.{front-filled}
 use Rattle.frame.specs.Frame.{ownHead, headRight}
 use Rattle.frame.specs.Single.{writeHeaderRows}
 use Rattle.frame.proofs.Single.{single-ends}
 use Rattle.siv_gcm.specs.SivGcm.{sivGcm, headerOf, masterKeysRight, codec}
 use Rattle.siv_gcm.proofs.KeySizes.{master-sizes, head-sizes}
-use Rattle.content.proofs.Calls.{front-filled}
 use Rattle.content.proofs.header.write_header.Statement.{statement}
 use Rattle.content.proofs.header.write_header.Tie as tie
 

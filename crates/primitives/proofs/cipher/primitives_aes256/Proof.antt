@@ -11,21 +11,21 @@ use lib.Seq.{take-all}
 use Rattle.octets.specs.Bytes.{placed}
 use Rattle.aes_spec.specs.Cipher.{cipher, aes}
 use Rattle.aes.proofs.Ciphers.{under-key}
-use Rattle.primitives.specs.Results.{end, aes256}
+use Rattle.primitives.specs.Results.{end, aesFits, aes256}
 use Rattle.primitives.proofs.Ends.{refused, done}
 use Rattle.primitives.proofs.cipher.primitives_aes256.Statement.{statement}
 use Rattle.primitives.proofs.cipher.primitives_aes256.Tie as tie
 
 returns : tie.Need-returns
-unfolding aes256
+unfolding aes256 aesFits
 returns c = refused _ _ _ (rw (ne-eqb _ _ (c .if1 .taken)))
 
 returns-2 : tie.Need-returns-2
-unfolding aes256
+unfolding aes256 aesFits
 returns-2 c = refused _ _ _ (rw (eq-eqb _ _ (c .before .if1 .left), ne-eqb _ _ (c .if2 .taken)))
 
 returns-3 : tie.Need-returns-3
-unfolding aes256
+unfolding aes256 aesFits
 returns-3 c = refused _ _ _ (rw (eq-eqb _ _ (c .before .before .if1 .left), eq-eqb _ _ (c .before .if2 .left), lt-leb _ _ (c .if3 .taken)))
 
 table-requires : tie.Need-table-requires
@@ -59,7 +59,7 @@ same-length : tie.Need-same-length
 same-length c = search needs
 
 returns-4 : tie.Need-returns-4
-unfolding aes256
+unfolding aes256 aesFits
 returns-4 c =
     let b = c .before .before .before .before .before in
     let i = b .before .before .before .before .before .before .before .before .before in

@@ -1,0 +1,9 @@
+pub mod InverseSBoxRule
+pub mod Unmixing
+pub mod InverseRoundTableRule
+pub mod Columns
+pub mod RoundColumns
+pub mod Steps
+pub mod Undone
+pub mod Ciphers
+pub mod Vectors

@@ -1,0 +1,5 @@
+pub mod KeyWrap
+pub mod Calls
+pub mod Rules
+pub mod Statements
+pub mod RegisterBytes
