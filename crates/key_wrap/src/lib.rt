@@ -1,5 +1,5 @@
 // The wrapping and unwrapping of a master key by RFC 3394, with AES-256 under the key-encryption key kek.
-pub mod registers;
+mod registers;
 mod steps;
 mod store;
 
