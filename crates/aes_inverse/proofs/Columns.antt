@@ -26,6 +26,10 @@ pair a b c d e f g h =
     ∙ ap (λ (x : ℕ). bitXor x (bitXor d h))
     (xor-parts (bitXor a b) c (bitXor e f) g ∙ ap (λ (x : ℕ). bitXor x (bitXor c g)) (xor-parts a b e f))
 
+-- Equal summands.
+pub four : {p q s t p' q' s' t' : ℕ} → p ≡ p' → q ≡ q' → s ≡ s' → t ≡ t' → xor4 p q s t ≡ xor4 p' q' s' t'
+four e f g h = ap₂ bitXor (ap₂ bitXor (ap₂ bitXor e f) g) h
+
 -- A sum of four sums of four, by columns in place of rows.
 transposed : (a b c d e f g h i j k l m n o p : ℕ)
     → xor4 (xor4 a b c d) (xor4 e f g h) (xor4 i j k l) (xor4 m n o p) ≡ xor4 (xor4 a e i m) (xor4 b f j n) (xor4 c g k o) (xor4 d h l p)
@@ -58,7 +62,7 @@ mulBits-sum : (k a b c : ℕ) → mulBits k a (bitXor b c) ≡ bitXor (mulBits k
 unfolding mulBits
 mulBits-sum zero a b c = refl
 mulBits-sum (suc k) a b c =
-    ap₂ (λ (x y : ℕ). bitXor x y)
+    ap₂ bitXor
     (ap (λ (x : ℕ). x * a) (xor-mod b c 1) ∙ digit (b % 2) (c % 2) a (mod-lt b (zero-lt-suc 1)) (mod-lt c (zero-lt-suc 1)))
     (ap (mulBits k (xtimes a)) (xor-shr b c 1) ∙ mulBits-sum k (xtimes a) (b / 2) (c / 2))
     ∙ xor-parts (b % 2 * a) (c % 2 * a) (mulBits k (xtimes a) (b / 2)) (mulBits k (xtimes a) (c / 2))
@@ -115,9 +119,6 @@ twice M N r a b c d =
     of : ℕ → ℕ → ℕ → ℕ
     of i j x = times (M r i) (times (N i j) x)
 
-    four : {p q s t p' q' s' t' : ℕ} → p ≡ p' → q ≡ q' → s ≡ s' → t ≡ t' → xor4 p q s t ≡ xor4 p' q' s' t'
-    four e f g h = ap₂ (λ (x y : ℕ). bitXor x y) (ap₂ (λ (x y : ℕ). bitXor x y) (ap₂ (λ (x y : ℕ). bitXor x y) e f) g) h
-
 -- In row r the byte x in row j of the column must add itself where r is j, and 0 elsewhere.
 abbrev unit : ℕ → ℕ → ℕ → ℕ
 unit r j x = cond (eqb r j) x 0
@@ -148,7 +149,7 @@ mixed = (tt, tt)
 module _ (M N : Matrix) where
   entry-sum : (r j x y : ℕ) → entry M N r j (bitXor x y) ≡ bitXor (entry M N r j x) (entry M N r j y)
   entry-sum r j x y =
-      ap₂ (λ (x y : ℕ). bitXor x y) (ap₂ (λ (x y : ℕ). bitXor x y) (ap₂ (λ (x y : ℕ). bitXor x y) (at 0) (at 1)) (at 2)) (at 3)
+      ap₂ bitXor (ap₂ bitXor (ap₂ bitXor (at 0) (at 1)) (at 2)) (at 3)
       ∙ sym (pair (of 0 x) (of 1 x) (of 2 x) (of 3 x) (of 0 y) (of 1 y) (of 2 y) (of 3 y))
     where
       of : ℕ → ℕ → ℕ
@@ -171,7 +172,7 @@ module _ (M N : Matrix) where
       let e : x ≡ bitXor (a * 2 ^ 4) b = sym (xor-shifted a 4 b d ∙ div-add-mod' x (2 ^ 4)) in
       let u : entry M N r j (a * 2 ^ 4) ≡ unit r j (a * 2 ^ 4) = right-is r j (a * 2 ^ 4) h k (all-at (λ (k : ℕ). right M N (k * 2 ^ 4)) 16 (p .1) a (omega arith)) in
       let v : entry M N r j b ≡ unit r j b = right-is r j b h k (all-at (right M N) 16 (p .0) b d) in
-      ap (entry M N r j) e ∙ entry-sum r j (a * 2 ^ 4) b ∙ ap₂ (λ (x y : ℕ). bitXor x y) u v ∙ sym (unit-sum r j (a * 2 ^ 4) b) ∙ ap (unit r j) (sym e)
+      ap (entry M N r j) e ∙ entry-sum r j (a * 2 ^ 4) b ∙ ap₂ bitXor u v ∙ sym (unit-sum r j (a * 2 ^ 4) b) ∙ ap (unit r j) (sym e)
 
 -- Row r of the two products is the column's byte in row r.
 module _ (M N : Matrix) (p : Passes M N) (a b c d : ℕ) (ha : a < 256) (hb : b < 256) (hc : c < 256) (hd : d < 256) where
@@ -179,9 +180,9 @@ module _ (M N : Matrix) (p : Passes M N) (a b c d : ℕ) (ha : a < 256) (hb : b 
       → row M r (row N 0 a b c d) (row N 1 a b c d) (row N 2 a b c d) (row N 3 a b c d) ≡ xor4 (unit r 0 a) (unit r 1 b) (unit r 2 c) (unit r 3 d)
   in-row r h =
       twice M N r a b c d
-      ∙ ap₂ (λ (x y : ℕ). bitXor x y)
-      (ap₂ (λ (x y : ℕ). bitXor x y)
-      (ap₂ (λ (x y : ℕ). bitXor x y) (entry-is M N p r 0 a h (lit< tt) ha) (entry-is M N p r 1 b h (lit< tt) hb))
+      ∙ ap₂ bitXor
+      (ap₂ bitXor
+      (ap₂ bitXor (entry-is M N p r 0 a h (lit< tt) ha) (entry-is M N p r 1 b h (lit< tt) hb))
       (entry-is M N p r 2 c h (lit< tt) hc))
       (entry-is M N p r 3 d h (lit< tt) hd)
 

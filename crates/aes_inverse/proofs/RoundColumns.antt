@@ -1,7 +1,7 @@
 -- A round of the inverse cipher with InvMixColumns before AddRoundKey: the round key went through it too.
 -- Assumes nothing.
 use Prim.Native.Nat.{ℕ, _+_, _≤_, _<_}
-use mathlib.Core.Path.{_≡_, sym, ap, ap₂, subst, _∙_}
+use mathlib.Core.Path.{_≡_, sym, ap, subst, _∙_}
 use mathlib.Core.List.{List}
 use mathlib.Core.Logic.{⊎-elim}
 use native.Mathlib.Omega.{arith}
@@ -14,7 +14,7 @@ use Rattle.octets.proofs.Words.{xor-bytes, self, renamed}
 use Rattle.aes_spec.specs.Field.{mul}
 use Rattle.aes_spec.specs.Cipher.{xor4}
 use Rattle.aes_inverse.specs.RoundKeys.{UnmixedBytes, Unmixed, UnmixedKeys}
-use Rattle.aes_inverse.proofs.Columns.{pair, mul-sum}
+use Rattle.aes_inverse.proofs.Columns.{pair, four, mul-sum}
 
 -- ---- the round keys
 
@@ -54,9 +54,6 @@ additive : (p q s t a b c d e f g h : ℕ)
 additive p q s t a b c d e f g h =
     pair (mul p a) (mul q b) (mul s c) (mul t d) (mul p e) (mul q f) (mul s g) (mul t h)
     ∙ four (sym (mul-sum p a e)) (sym (mul-sum q b f)) (sym (mul-sum s c g)) (sym (mul-sum t d h))
-  where
-    four : {w x y z w' x' y' z' : ℕ} → w ≡ w' → x ≡ x' → y ≡ y' → z ≡ z' → xor4 w x y z ≡ xor4 w' x' y' z'
-    four i j k l = ap₂ (λ (x y : ℕ). bitXor x y) (ap₂ (λ (x y : ℕ). bitXor x y) (ap₂ (λ (x y : ℕ). bitXor x y) i j) k) l
 
 -- So the key's word w, unmixed in k, may be added first.
 pub keyed-first : {r k : ℕ} (a b c d w : ℕ) → Keyed r a b c d k → Unmixed k w → UnmixedBytes r (bitXor a (b0 w)) (bitXor b (b1 w)) (bitXor c (b2 w)) (bitXor d (b3 w))

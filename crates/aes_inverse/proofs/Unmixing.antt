@@ -17,14 +17,14 @@ unfolding xtimes
 times-x-low b h =
     let e : b * 2 % 256 ≡ b * 2 = omega arith in
     let f : b / 128 * 0x1b ≡ 0 = omega arith in
-    sym (ap₂ (λ (x y : ℕ). bitXor x y) e f ∙ xor-zero-r (b * 2))
+    sym (ap₂ bitXor e f ∙ xor-zero-r (b * 2))
 
 pub times-x-high : (b : ℕ) → 128 ≤ b → b < 256 → bitXor ((b - 128) * 2) 0x1b ≡ xtimes b
 unfolding xtimes
 times-x-high b l h =
     let e : b * 2 % 256 ≡ (b - 128) * 2 = omega arith in
     let f : b / 128 * 0x1b ≡ 0x1b = omega arith in
-    sym (ap₂ (λ (x y : ℕ). bitXor x y) e f)
+    sym (ap₂ bitXor e f)
 
 -- ---- the multiples of a byte
 

@@ -1,7 +1,6 @@
 -- `sub`: the multiples add up to the entry.
 -- Assumes nothing.
-use Prim.Native.Nat.{ℕ}
-use mathlib.Core.Path.{_≡_, _∙_, ap, ap₂}
+use mathlib.Core.Path.{_∙_, ap, ap₂}
 use borrow.Author.Needs.{needs}
 use lib.Bits.{bitXor}
 use Rattle.aes_spec.specs.SBox.{sbox}
@@ -26,16 +25,13 @@ byte2-requires c κs = search needs
 byte3-requires : tie.Need-byte3-requires
 byte3-requires c κs = search needs
 
-sum : {u v u' v' : ℕ} → u ≡ u' → v ≡ v' → bitXor u v ≡ bitXor u' v'
-sum e f = ap₂ (λ (u v : ℕ). bitXor u v) e f
-
 returns : tie.Need-returns
 returns c =
     let k = c .before .before .before .before in
     let x = k .before .args .x in
     let e = k .entry .ensures in
     let r =
-    sum (sum (sum (c .before .before .before .byte0 .ensures ∙ e .0 .at0) (c .before .before .byte1 .ensures ∙ e .0 .at1)) (c .before .byte2 .ensures ∙ e .0 .at2)) (c .byte3 .ensures ∙ e .0 .at3)
+    ap₂ bitXor (ap₂ bitXor (ap₂ bitXor (c .before .before .before .byte0 .ensures ∙ e .0 .at0) (c .before .before .byte1 .ensures ∙ e .0 .at1)) (c .before .byte2 .ensures ∙ e .0 .at2)) (c .byte3 .ensures ∙ e .0 .at3)
     ∙ multiples-add (inverseSbox x) (inverse-byte x) in
     (r, ap sbox r ∙ e .1)
 

@@ -1,7 +1,7 @@
 -- `multiples`: sums of the byte times 1, x, x^2 and x^3.
 -- Assumes nothing.
 use Prim.Native.Nat.{ℕ}
-use mathlib.Core.Path.{_≡_, _∙_, ap, ap₂}
+use mathlib.Core.Path.{_∙_, ap, ap₂}
 use borrow.Author.Needs.{needs}
 use lib.Bits.{bitXor}
 use Rattle.octets.proofs.Words.{renamed}
@@ -22,9 +22,6 @@ times-x-requires-3 c κs = search needs
 join-requires : tie.Need-join-requires
 join-requires c κs = search needs
 
-sum : {u v u' v' : ℕ} → u ≡ u' → v ≡ v' → bitXor u v ≡ bitXor u' v'
-sum e f = ap₂ (λ (u v : ℕ). bitXor u v) e f
-
 returns : tie.Need-returns
 returns c =
     let k = c .before in
@@ -33,7 +30,7 @@ returns c =
     let x2 = k .before .times-x2 .ensures ∙ ap xtimes x1 in
     let x3 = k .times-x3 .ensures ∙ ap xtimes x2 in
     multiples b (search needs)
-    (renamed (c .join .ensures .1) (sum (sum x3 x2) x1) (ap (λ (u : ℕ). bitXor u b) x3) (ap (λ (u : ℕ). bitXor u b) (sum x3 x2)) (ap (λ (u : ℕ). bitXor u b) (sum x3 x1)))
+    (renamed (c .join .ensures .1) (ap₂ bitXor (ap₂ bitXor x3 x2) x1) (ap (λ (u : ℕ). bitXor u b) x3) (ap (λ (u : ℕ). bitXor u b) (ap₂ bitXor x3 x2)) (ap (λ (u : ℕ). bitXor u b) (ap₂ bitXor x3 x1)))
 
 pub multiples-spec : {M : Type 1} → statement M
 multiples-spec =
