@@ -149,7 +149,7 @@ mixed = (tt, tt)
 module _ (M N : Matrix) where
   entry-sum : (r j x y : ℕ) → entry M N r j (bitXor x y) ≡ bitXor (entry M N r j x) (entry M N r j y)
   entry-sum r j x y =
-      ap₂ bitXor (ap₂ bitXor (ap₂ bitXor (at 0) (at 1)) (at 2)) (at 3)
+      four (at 0) (at 1) (at 2) (at 3)
       ∙ sym (pair (of 0 x) (of 1 x) (of 2 x) (of 3 x) (of 0 y) (of 1 y) (of 2 y) (of 3 y))
     where
       of : ℕ → ℕ → ℕ
@@ -180,11 +180,7 @@ module _ (M N : Matrix) (p : Passes M N) (a b c d : ℕ) (ha : a < 256) (hb : b 
       → row M r (row N 0 a b c d) (row N 1 a b c d) (row N 2 a b c d) (row N 3 a b c d) ≡ xor4 (unit r 0 a) (unit r 1 b) (unit r 2 c) (unit r 3 d)
   in-row r h =
       twice M N r a b c d
-      ∙ ap₂ bitXor
-      (ap₂ bitXor
-      (ap₂ bitXor (entry-is M N p r 0 a h (lit< tt) ha) (entry-is M N p r 1 b h (lit< tt) hb))
-      (entry-is M N p r 2 c h (lit< tt) hc))
-      (entry-is M N p r 3 d h (lit< tt) hd)
+      ∙ four (entry-is M N p r 0 a h (lit< tt) ha) (entry-is M N p r 1 b h (lit< tt) hb) (entry-is M N p r 2 c h (lit< tt) hc) (entry-is M N p r 3 d h (lit< tt) hd)
 
   -- The column that comes back.
   column : (row M 0 (row N 0 a b c d) (row N 1 a b c d) (row N 2 a b c d) (row N 3 a b c d) ≡ a)

@@ -6,7 +6,7 @@ use mathlib.Core.List.{List, [], _∷_, map}
 use native.Mathlib.Nat.{mod-lt}
 use native.Mathlib.Omega.{arith}
 use lib.Dec.{lit<}
-use lib.ListN.{length, getD}
+use lib.ListN.{length, getD, length-map}
 use lib.Bits.{bitXor, xor-lt}
 use Rattle.octets.specs.Bytes.{Bytes}
 use Rattle.octets.specs.Words.{wordBytes}
@@ -27,16 +27,12 @@ use Rattle.aes_inverse.proofs.Columns.{columns-undone, columns-redone}
 -- ---- SUBBYTES, and any other map by a table of bytes
 
 module _ (f : ℕ → ℕ) where
-  map-length : (s : List ℕ) → length (map f s) ≡ length s
-  map-length [] = refl
-  map-length (a ∷ s) = ap suc (map-length s)
-
   map-bytes : ((x : ℕ) → f x < 256) → (s : List ℕ) → Bytes (map f s)
   map-bytes h [] = below-nil (lit< tt)
   map-bytes h (a ∷ s) = below-cons (h a) (map-bytes h s)
 
   map-block : ((x : ℕ) → f x < 256) → {s : List ℕ} → Block s → Block (map f s)
-  map-block h {s} b = record { size = map-length s ∙ b .size; bytes = map-bytes h s }
+  map-block h {s} b = record { size = length-map s f ∙ b .size; bytes = map-bytes h s }
 
 map-undone : (f g : ℕ → ℕ) → ((x : ℕ) → x < 256 → f (g x) ≡ x) → (s : List ℕ) → Bytes s → map f (map g s) ≡ s
 map-undone f g e [] h = refl
@@ -93,8 +89,8 @@ mul-byte : {a : ℕ} (b : ℕ) → a < 256 → mul a b < 256
 unfolding mul
 mul-byte {a} b h = mulBits-byte 8 a b h
 
-four : (a b c d : ℕ) → a < 256 → b < 256 → c < 256 → d < 256 → xor4 a b c d < 256
-four a b c d p q r s = xor-lt 8 (bitXor (bitXor a b) c) d (xor-lt 8 (bitXor a b) c (xor-lt 8 a b p q) r) s
+sum-byte : (a b c d : ℕ) → a < 256 → b < 256 → c < 256 → d < 256 → xor4 a b c d < 256
+sum-byte a b c d p q r s = xor-lt 8 (bitXor (bitXor a b) c) d (xor-lt 8 (bitXor a b) c (xor-lt 8 a b p q) r) s
 
 mixed-block : {s : List ℕ} → Block s → Block (mixColumns s)
 unfolding mixColumns
@@ -114,10 +110,10 @@ mixed-block {s} b = record { size = long 4 s (b .size) ∙ b .size; bytes = byte
     bytes (a ∷ b ∷ []) h = below-nil (lit< tt)
     bytes (a ∷ b ∷ c ∷ []) h = below-nil (lit< tt)
     bytes (a ∷ b ∷ c ∷ d ∷ s) h =
-        below-cons (four (mul 2 a) (mul 3 b) c d (mul-byte a (lit< tt)) (mul-byte b (lit< tt)) (h .at 2) (h .at 3))
-        (below-cons (four a (mul 2 b) (mul 3 c) d (h .at 0) (mul-byte b (lit< tt)) (mul-byte c (lit< tt)) (h .at 3))
-        (below-cons (four a b (mul 2 c) (mul 3 d) (h .at 0) (h .at 1) (mul-byte c (lit< tt)) (mul-byte d (lit< tt)))
-        (below-cons (four (mul 3 a) b c (mul 2 d) (mul-byte a (lit< tt)) (h .at 1) (h .at 2) (mul-byte d (lit< tt))) (bytes s (below-drop 4 h)))))
+        below-cons (sum-byte (mul 2 a) (mul 3 b) c d (mul-byte a (lit< tt)) (mul-byte b (lit< tt)) (h .at 2) (h .at 3))
+        (below-cons (sum-byte a (mul 2 b) (mul 3 c) d (h .at 0) (mul-byte b (lit< tt)) (mul-byte c (lit< tt)) (h .at 3))
+        (below-cons (sum-byte a b (mul 2 c) (mul 3 d) (h .at 0) (h .at 1) (mul-byte c (lit< tt)) (mul-byte d (lit< tt)))
+        (below-cons (sum-byte (mul 3 a) b c (mul 2 d) (mul-byte a (lit< tt)) (h .at 1) (h .at 2) (mul-byte d (lit< tt))) (bytes s (below-drop 4 h)))))
 
 unmixed-block : {s : List ℕ} → Block s → Block (invMixColumns s)
 unfolding invMixColumns
@@ -132,7 +128,7 @@ unmixed-block {s} b = record { size = long 4 s (b .size) ∙ b .size; bytes = by
     long (suc n) (a ∷ b ∷ c ∷ d ∷ s) l = ap (λ (k : ℕ). suc (suc (suc (suc k)))) (long n s (omega arith))
 
     row : (j k l m a b c d : ℕ) → j < 256 → k < 256 → l < 256 → m < 256 → xor4 (mul j a) (mul k b) (mul l c) (mul m d) < 256
-    row j k l m a b c d p q r s = four (mul j a) (mul k b) (mul l c) (mul m d) (mul-byte a p) (mul-byte b q) (mul-byte c r) (mul-byte d s)
+    row j k l m a b c d p q r s = sum-byte (mul j a) (mul k b) (mul l c) (mul m d) (mul-byte a p) (mul-byte b q) (mul-byte c r) (mul-byte d s)
 
     bytes : (s : List ℕ) → Bytes (invMixColumns s)
     bytes [] = below-nil (lit< tt)

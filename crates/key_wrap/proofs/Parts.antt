@@ -1,6 +1,6 @@
 -- Registers of two words each, and the byte strings that the definitions speak of.
 -- Assumes nothing.
-use Prim.Native.Nat.{ℕ, _+_, _/_, _^_, _<_, _≤_}
+use Prim.Native.Nat.{ℕ, _+_, _/_, _^_, _<_}
 use mathlib.Core.Path.{_≡_, refl, sym, ap, ap₂, _∙_}
 use mathlib.Core.Bool.{_&&_}
 use mathlib.Core.List.{List, [], _∷_, _++_}
@@ -8,7 +8,7 @@ use native.Mathlib.Nat.{mod-eq-of-lt}
 use native.Mathlib.Omega.{arith}
 use lib.Dec.{eqb}
 use lib.ListN.{length, take, drop, length-append, length-drop, take-append-drop}
-use lib.Seq.{take-all, drop-drop}
+use lib.Seq.{drop-drop}
 use lib.Bits.{bitXor, xor-zero-r}
 use Rattle.octets.specs.Bytes.{same, placed}
 use Rattle.octets.specs.BigEndian.{be}
@@ -16,7 +16,7 @@ use Rattle.octets.specs.Words.{b0, b1, b2, b3, wordBytes}
 use Rattle.octets.specs.Xors.{xors}
 use Rattle.octets.proofs.BigEndian.{be-word}
 use Rattle.octets.proofs.Equality.{same-self}
-use Rattle.octets.proofs.Lists.{drop-all}
+use Rattle.octets.proofs.Lists.{drop-all, part-rest, placed-all, placed-placed}
 use Rattle.octets.proofs.Words.{xor-bytes, self}
 use Rattle.aes_spec.specs.KeyExpansion.{keyExpansion}
 use Rattle.aes_spec.specs.Cipher.{cipher, aes}
@@ -31,16 +31,14 @@ pub begun : (a b c d e f g h : ℕ) (key : List ℕ) → length key ≡ 32 → w
     → wordBytes (0xa6a6a6a6 ∷ 0xa6a6a6a6 ∷ a ∷ b ∷ c ∷ d ∷ e ∷ f ∷ g ∷ h ∷ []) ≡ initialValue ++ key
 unfolding wordBytes initialValue be
 begun a b c d e f g h key l p q =
-    let r : take 16 (drop 16 key) ≡ drop 16 key = take-all 16 (drop 16 key) (rw length-drop (omega arith)) in
-    ap (λ (x : List ℕ). initialValue ++ x) (ap₂ (λ (x y : List ℕ). x ++ y) p (q ∙ r) ∙ take-append-drop 16 key)
+    ap (λ (x : List ℕ). initialValue ++ x) (ap₂ (λ (x y : List ℕ). x ++ y) p (q ∙ part-rest key 32 16 l) ∙ take-append-drop 16 key)
 
 pub read-in : (a b c d e f g h i j k l : ℕ) (s : List ℕ) → length s ≡ 40
     → wordBytes (a ∷ b ∷ c ∷ d ∷ []) ≡ take 16 (drop 0 s) → wordBytes (e ∷ f ∷ g ∷ h ∷ []) ≡ take 16 (drop 16 s) → wordBytes (k ∷ l ∷ i ∷ j ∷ []) ≡ take 16 (drop 24 s)
     → wordBytes (a ∷ b ∷ c ∷ d ∷ e ∷ f ∷ g ∷ h ∷ i ∷ j ∷ []) ≡ s
 unfolding wordBytes
 read-in a b c d e f g h i j k l s n p q r =
-    let t : take 16 (drop 24 s) ≡ drop 24 s = take-all 16 (drop 24 s) (rw length-drop (omega arith)) in
-    let u : drop 8 (wordBytes (k ∷ l ∷ i ∷ j ∷ [])) ≡ drop 16 (drop 16 s) = ap (drop 8) (r ∙ t) ∙ drop-drop 8 24 s ∙ sym (drop-drop 16 16 s) in
+    let u : drop 8 (wordBytes (k ∷ l ∷ i ∷ j ∷ [])) ≡ drop 16 (drop 16 s) = ap (drop 8) (r ∙ part-rest s 40 24 n) ∙ drop-drop 8 24 s ∙ sym (drop-drop 16 16 s) in
     ap₂ (λ (x y : List ℕ). x ++ y) p (ap₂ (λ (x y : List ℕ). x ++ y) q u ∙ take-append-drop 16 (drop 16 s)) ∙ take-append-drop 16 s
 
 -- ---- the check value
@@ -95,10 +93,8 @@ pub stored-key : (c d e f g h i j : ℕ) (out : List ℕ) → length out ≡ 32
 unfolding wordBytes
 stored-key c d e f g h i j out l =
     let s = wordBytes (c ∷ d ∷ e ∷ f ∷ []) in
-    let o = s ++ drop 16 out in
-    let n : length o ≤ 32 = rw (length-append s (drop 16 out), length-drop 16 out) (omega arith) in
-    let z : drop 32 o ≡ [] = drop-all 32 o n in
-    ap (λ (x : List ℕ). (s ++ wordBytes (g ∷ h ∷ i ∷ j ∷ [])) ++ x) z
+    let t = wordBytes (g ∷ h ∷ i ∷ j ∷ []) in
+    placed-placed s t out 0 (omega arith) ∙ placed-all (s ++ t) out l
 
 pub stored : (a b c d e f g h i j : ℕ) (out : List ℕ) → length out ≡ 40
     → placed (wordBytes (g ∷ h ∷ i ∷ j ∷ [])) 24 (placed (wordBytes (e ∷ f ∷ g ∷ h ∷ [])) 16 (placed (wordBytes (a ∷ b ∷ c ∷ d ∷ [])) 0 out))
