@@ -14,6 +14,7 @@ ghost use mathlib.Core.Path.{_≡_};
 ghost use Prim.Native.Nat.{_<_, _≤_, _+_, _*_, _^_};
 ghost use lib.ListN.{length, take, drop, getD};
 ghost use lib.Bits.{bitXor};
+ghost use lib.Dec.{eqb};
 ghost use Rattle.octets.specs.Bytes.{same};
 ghost use Rattle.octets.specs.Words.{HasBytes, b0, b1, b2, b3};
 ghost use Rattle.octets.specs.Xors.{xors};
@@ -78,11 +79,17 @@ fn difference(x: u32, y: u32) -> u64
     (x ^ y) as u64
 }
 
-// Are the two blocks equal? The time does not depend on where they differ.
+// A sum that is 0 where the two blocks are equal, and only there. The time does not depend on where they differ.
+pub fn differences(x: Block, y: Block) -> u64
+    ensures { λ r. ⌜ (r < 2 ^ 34) × (eqb r 0 ≡ same (state x) (state y)) ⌝ }
+{
+    difference(x.a, y.a) + difference(x.b, y.b) + difference(x.c, y.c) + difference(x.d, y.d)
+}
+
 pub fn equal(x: Block, y: Block) -> bool
     ensures { λ r. ⌜ r ≡ same (state x) (state y) ⌝ }
 {
-    difference(x.a, y.a) + difference(x.b, y.b) + difference(x.c, y.c) + difference(x.d, y.d) == 0
+    differences(x, y) == 0
 }
 
 // The words of the schedule that the round n adds.

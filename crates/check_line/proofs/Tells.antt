@@ -12,10 +12,12 @@ use lib.Seq.{take-at, drop-at, getD-append-seam}
 use Rattle.octets.specs.Rows.{Outcome, done, refused, refusedAt, answer, End}
 use Rattle.octets.proofs.Lists.{le-or-lt}
 use Rattle.frame.specs.Layout.{rightLength}
-use Rattle.frame.specs.Frame.{openRows, openFile}
+use Rattle.frame.specs.Frame.{openRows, openFile, masterKeysRight}
 use Rattle.frame.specs.Statements.{Room}
-use Rattle.siv_gcm.specs.SivGcm.{sivGcm, masterKeysRight, codec}
-use Rattle.content.proofs.Demands.{demand-three}
+use Rattle.siv_gcm.specs.SivGcm.{sivGcm, codec}
+use Rattle.vault.specs.declared.record.Combo.the-variants.{SivGcm}
+use Rattle.vault.specs.Vault.{vaultWith}
+use Rattle.vault.proofs.Demands.{demand-three}
 use Rattle.check_line.specs.Line.{digits, decimal, openedLine, refusedLine, refusedAtLine, lineOf}
 use Rattle.check_line.specs.Check.{checkVault, checkLine}
 use Rattle.check_line.specs.Statements.{value, DecimalReads, Lines, TellsOpening, OpenedExactly}
@@ -99,7 +101,7 @@ opened-exactly enc mac file k bytes size =
     let l = zeros-long file in
     let room : Room sivGcm file out = λ r. let s = clear-short (length file) in omega arith in
     let line = tells-opening enc mac file out (k .enc-size) (k .mac-size) size l in
-    let opens = demand-three enc mac .1 k .opens-exactly file out bytes room in
+    let opens = demand-three (vaultWith enc mac SivGcm) .1 k .opens-exactly file out bytes room in
     let t = told (openFile (codec enc mac) file out .outcome) in (
       (λ e. opens .0 .0 (t .0 (ap (λ (s : List ℕ). getD s 0 0) (sym line) ∙ e)), λ c. ap (λ (s : List ℕ). getD s 0 0) line ∙ t .1 (opens .0 .1 c)),
       λ c fits e. line ∙ ap (λ (x : End). lineOf (x .outcome)) (opens .1 c fits e),

@@ -1,13 +1,15 @@
-// The calls on a single chunk. They are lent the content key and the header's nonce, no master key and not the header's reserved bytes: a chunk
-// depends on none of these, so the contracts hold for any.
+// The calls on a single chunk, by the cipher combo. They are lent the content key and the header's nonce, not the encryption master key and not the
+// header's reserved bytes: a chunk depends on neither, so the contracts hold for any. Nor does one of SIV_GCM depend on the MAC master key.
 use aes::round_table::table;
 use answer::Answer;
 use answer::Refusal;
 use gcm::key::prepare;
-use siv_gcm::chunk::good_chunk;
-use siv_gcm::chunk::seal_chunk;
-use siv_gcm::sizes::head_right;
-use siv_gcm::stored::open_part;
+use vault::chunk::good_chunk;
+use vault::chunk::open_part;
+use vault::chunk::seal_chunk;
+use vault::record::Combo;
+use vault::sizes::head_right;
+use vault::sizes::sizes_of;
 ghost use mathlib.Core.Path.{_≡_};
 ghost use mathlib.Core.Bool.{_&&_, cond};
 ghost use mathlib.Core.List.{List};
@@ -18,8 +20,10 @@ ghost use Rattle.octets.specs.Rows.{ended};
 ghost use Rattle.aes_spec.specs.Cipher.{aes};
 ghost use Rattle.frame.specs.Frame.{headWith};
 ghost use Rattle.frame.specs.Single.{writeChunk, openChunk};
-ghost use Rattle.siv_gcm.specs.SivGcm.{codec, sealed, opens, opened, chunkData};
+ghost use Rattle.siv_gcm.specs.SivGcm.{codec};
 ghost use Rattle.answer.specs.Meaning.{meaning};
+ghost use Rattle.vault.specs.Vault.{sizesOf, codecWith};
+ghost use Rattle.vault.specs.Under.{sealedUnder, goodUnder, openedUnder};
 
 // Is n at least `low` and at most `high`?
 fn within(low: usize, n: usize, high: usize) -> bool
@@ -33,22 +37,67 @@ fn within(low: usize, n: usize, high: usize) -> bool
 
 // Writes a chunk under the content key to out, which has just its length.
 fn seal_under(
+    combo: Combo,
     key: &[u8],
+    mac: &[u8],
     header_nonce: &[u8],
     number: u64,
     nonce: &[u8],
     cleartext: &[u8],
     out: &mut [u8],
 )
-    requires { ⌜ (length (now key) ≡ 32) × (length (now «header_nonce») ≡ 12) × (length (now nonce) ≡ 12) ⌝ }
-    requires { ⌜ (length (now cleartext) ≤ 32768) × (length (now out) ≡ length (now cleartext) + 28) ⌝ }
-    ensures { λ _. ⌜ now (out .exit) ≡ sealed (aes 8 (now (key .entry))) (chunkData (now («header_nonce» .entry)) number) (now (nonce .entry)) (now (cleartext .entry)) ⌝ }
+    requires { ⌜ (length (now key) ≡ 32) × (length (now «header_nonce») ≡ sizesOf combo .nonce) × (length (now nonce) ≡ sizesOf combo .nonce) ⌝ }
+    requires { ⌜ (length (now cleartext) ≤ 32768) × (length (now out) ≡ length (now cleartext) + sizesOf combo .overhead) ⌝ }
+    ensures { λ _. ⌜ now (out .exit) ≡ sealedUnder combo (aes 8 (now (key .entry))) (now (mac .entry)) (now («header_nonce» .entry)) number (now (nonce .entry)) (now (cleartext .entry)) ⌝ }
 {
     let t = table();
     let mut w = [0u32; 60];
     let mut m = [0u64; 32];
     prepare(&t, key, &mut w, &mut m);
-    seal_chunk(&t, &w, &m, header_nonce, number, nonce, cleartext, out);
+    seal_chunk(
+        combo,
+        &t,
+        &w,
+        &m,
+        mac,
+        header_nonce,
+        number,
+        nonce,
+        cleartext,
+        out,
+    );
+}
+
+// Writes a chunk by the combo.
+fn write_by(
+    combo: Combo,
+    mac: &[u8],
+    key: &[u8],
+    header_nonce: &[u8],
+    number: u64,
+    nonce: &[u8],
+    cleartext: &[u8],
+    out: &mut [u8],
+) -> Answer
+    ensures { λ r. ⌜ ((enc reserved : List ℕ) → ended (meaning r) (now (out .exit)) ≡ writeChunk (codecWith combo enc (now (mac .entry))) (headWith (now («header_nonce» .entry)) reserved (now (key .entry))) number (now (nonce .entry)) (now (cleartext .entry)) (now (out .entry))) ⌝ }
+{
+    let z = sizes_of(combo);
+    if !head_right(combo, header_nonce, key) {
+        return Answer::Refused(Refusal::KeyOrNonceSize);
+    }
+    if nonce.len() != z.nonce {
+        return Answer::Refused(Refusal::KeyOrNonceSize);
+    }
+    if !within(1, cleartext.len(), 32768) {
+        return Answer::Refused(Refusal::Length);
+    }
+    let n = cleartext.len() + z.overhead;
+    if out.len() < n {
+        return Answer::Refused(Refusal::Room);
+    }
+    let to = &mut out[..n];
+    seal_under(combo, key, mac, header_nonce, number, nonce, cleartext, to);
+    Answer::Done(n)
 }
 
 /// Writes the chunk of a number, a nonce and a cleartext of 1 to 32,768 bytes: 28 bytes more. Rows 1, 4, 7.
@@ -62,39 +111,72 @@ pub fn write_chunk(
 ) -> Answer
     ensures { λ r. ⌜ ((enc mac reserved : List ℕ) → ended (meaning r) (now (out .exit)) ≡ writeChunk (codec enc mac) (headWith (now («header_nonce» .entry)) reserved (now (key .entry))) number (now (nonce .entry)) (now (cleartext .entry)) (now (out .entry))) ⌝ }
 {
-    if !head_right(header_nonce, key) {
-        return Answer::Refused(Refusal::KeyOrNonceSize);
-    }
-    if nonce.len() != 12 {
-        return Answer::Refused(Refusal::KeyOrNonceSize);
-    }
-    if !within(1, cleartext.len(), 32768) {
-        return Answer::Refused(Refusal::Length);
-    }
-    let n = cleartext.len() + 28;
-    if out.len() < n {
-        return Answer::Refused(Refusal::Room);
-    }
-    seal_under(key, header_nonce, number, nonce, cleartext, &mut out[..n]);
-    Answer::Done(n)
+    write_by(
+        Combo::SivGcm,
+        &[],
+        key,
+        header_nonce,
+        number,
+        nonce,
+        cleartext,
+        out,
+    )
 }
 
 // Writes the cleartext of a good chunk to out, which has just its length. Of a chunk that is not good nothing is written.
-fn open_under(key: &[u8], header_nonce: &[u8], number: u64, chunk: &[u8], out: &mut [u8]) -> bool
-    requires { ⌜ (length (now key) ≡ 32) × (length (now «header_nonce») ≡ 12) ⌝ }
-    requires { ⌜ (length (now chunk) ≤ 32796) × (length (now chunk) ≡ length (now out) + 28) ⌝ }
-    ensures { λ r. ⌜ r ≡ opens (aes 8 (now (key .entry))) (chunkData (now («header_nonce» .entry)) number) (now (chunk .entry)) ⌝ }
-    ensures { λ r. ⌜ now (out .exit) ≡ cond r (opened (aes 8 (now (key .entry))) (now (chunk .entry))) (now (out .entry)) ⌝ }
+fn open_under(
+    combo: Combo,
+    key: &[u8],
+    mac: &[u8],
+    header_nonce: &[u8],
+    number: u64,
+    chunk: &[u8],
+    out: &mut [u8],
+) -> bool
+    requires { ⌜ (length (now key) ≡ 32) × (length (now «header_nonce») ≡ sizesOf combo .nonce) ⌝ }
+    requires { ⌜ (length (now out) ≤ 32768) × (length (now chunk) ≡ length (now out) + sizesOf combo .overhead) ⌝ }
+    ensures { λ r. ⌜ r ≡ goodUnder combo (aes 8 (now (key .entry))) (now (mac .entry)) (now («header_nonce» .entry)) number (now (chunk .entry)) ⌝ }
+    ensures { λ r. ⌜ now (out .exit) ≡ cond r (openedUnder combo (aes 8 (now (key .entry))) (now (chunk .entry))) (now (out .entry)) ⌝ }
 {
     let t = table();
     let mut w = [0u32; 60];
     let mut m = [0u64; 32];
     prepare(&t, key, &mut w, &mut m);
-    if !good_chunk(&t, &w, &m, header_nonce, number, chunk) {
+    if !good_chunk(combo, &t, &w, &m, mac, header_nonce, number, chunk) {
         return false;
     }
-    open_part(&t, &w, chunk, 0, out);
+    open_part(combo, &t, &w, chunk, 0, out);
     true
+}
+
+// Opens a chunk by the combo.
+fn open_by(
+    combo: Combo,
+    mac: &[u8],
+    key: &[u8],
+    header_nonce: &[u8],
+    number: u64,
+    chunk: &[u8],
+    out: &mut [u8],
+) -> Answer
+    ensures { λ r. ⌜ ((enc reserved : List ℕ) → ended (meaning r) (now (out .exit)) ≡ openChunk (codecWith combo enc (now (mac .entry))) (headWith (now («header_nonce» .entry)) reserved (now (key .entry))) number (now (chunk .entry)) (now (out .entry))) ⌝ }
+{
+    let z = sizes_of(combo);
+    if !head_right(combo, header_nonce, key) {
+        return Answer::Refused(Refusal::KeyOrNonceSize);
+    }
+    if !within(z.overhead + 1, chunk.len(), 32768 + z.overhead) {
+        return Answer::Refused(Refusal::Length);
+    }
+    let n = chunk.len() - z.overhead;
+    if out.len() < n {
+        return Answer::Refused(Refusal::Room);
+    }
+    let to = &mut out[..n];
+    if !open_under(combo, key, mac, header_nonce, number, chunk, to) {
+        return Answer::Refused(Refusal::Chunk(number));
+    }
+    Answer::Done(n)
 }
 
 /// Opens a chunk under its number: writes its cleartext, 28 bytes less. Rows 1, 4, 7, 10 with that number.
@@ -107,18 +189,5 @@ pub fn open_chunk(
 ) -> Answer
     ensures { λ r. ⌜ ((enc mac reserved : List ℕ) → ended (meaning r) (now (out .exit)) ≡ openChunk (codec enc mac) (headWith (now («header_nonce» .entry)) reserved (now (key .entry))) number (now (chunk .entry)) (now (out .entry))) ⌝ }
 {
-    if !head_right(header_nonce, key) {
-        return Answer::Refused(Refusal::KeyOrNonceSize);
-    }
-    if !within(29, chunk.len(), 32796) {
-        return Answer::Refused(Refusal::Length);
-    }
-    let n = chunk.len() - 28;
-    if out.len() < n {
-        return Answer::Refused(Refusal::Room);
-    }
-    if !open_under(key, header_nonce, number, chunk, &mut out[..n]) {
-        return Answer::Refused(Refusal::Chunk(number));
-    }
-    Answer::Done(n)
+    open_by(Combo::SivGcm, &[], key, header_nonce, number, chunk, out)
 }

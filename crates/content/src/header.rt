@@ -4,16 +4,43 @@ use answer::Answer;
 use answer::HeaderAnswer;
 use answer::Refusal;
 use octets::slice::copy_at;
-use siv_gcm::header::seal_header;
-use siv_gcm::sizes::head_right;
 use siv_gcm::sizes::master_keys_right;
+use vault::header::seal_header;
+use vault::record::Combo;
+use vault::sizes::head_right;
+use vault::sizes::sizes_of;
 ghost use mathlib.Core.Path.{_≡_};
-ghost use lib.ListN.{replicate};
+ghost use lib.ListN.{length, replicate};
 ghost use Rattle.octets.specs.Rows.{ended};
 ghost use Rattle.frame.specs.Frame.{ownHead};
 ghost use Rattle.frame.specs.Single.{writeHeader, openHeader};
 ghost use Rattle.siv_gcm.specs.SivGcm.{codec};
 ghost use Rattle.answer.specs.Meaning.{row, meaning, headerMeaning, reservedBeside};
+ghost use Rattle.vault.specs.Vault.{codecWith};
+
+// Writes a header by the combo, under master keys of their size.
+fn write_by(
+    combo: Combo,
+    enc: &[u8],
+    mac: &[u8],
+    nonce: &[u8],
+    key: &[u8],
+    out: &mut [u8],
+) -> Answer
+    requires { ⌜ (length (now enc) ≡ 32) × (length (now mac) ≡ 32) ⌝ }
+    ensures { λ r. ⌜ ended (meaning r) (now (out .exit)) ≡ writeHeader (codecWith combo (now (enc .entry)) (now (mac .entry))) (ownHead (now (nonce .entry)) (now (key .entry))) (now (out .entry)) ⌝ }
+{
+    if !head_right(combo, nonce, key) {
+        return Answer::Refused(Refusal::KeyOrNonceSize);
+    }
+    let size = sizes_of(combo).header;
+    if out.len() < size {
+        return Answer::Refused(Refusal::Room);
+    }
+    let t = table();
+    seal_header(combo, &t, enc, mac, nonce, key, &mut out[..size]);
+    Answer::Done(size)
+}
 
 /// Writes the header of a nonce and a content key, its eight reserved bytes FF: 68 bytes. Rows 1, 7.
 pub fn write_header(enc: &[u8], mac: &[u8], nonce: &[u8], key: &[u8], out: &mut [u8]) -> Answer
@@ -22,15 +49,7 @@ pub fn write_header(enc: &[u8], mac: &[u8], nonce: &[u8], key: &[u8], out: &mut 
     if !master_keys_right(enc, mac) {
         return Answer::Refused(Refusal::KeyOrNonceSize);
     }
-    if !head_right(nonce, key) {
-        return Answer::Refused(Refusal::KeyOrNonceSize);
-    }
-    if out.len() < 68 {
-        return Answer::Refused(Refusal::Room);
-    }
-    let t = table();
-    seal_header(&t, enc, nonce, key, &mut out[..68]);
-    Answer::Done(68)
+    write_by(Combo::SivGcm, enc, mac, nonce, key, out)
 }
 
 // A refusal of the header opener.
@@ -43,15 +62,13 @@ fn refused(refusal: Refusal) -> HeaderAnswer
     }
 }
 
-/// Opens a header: writes its content key, 32 bytes, and returns its eight reserved bytes. Rows 1, 4, 7, 9.
-pub fn open_header(enc: &[u8], mac: &[u8], header: &[u8], out: &mut [u8]) -> HeaderAnswer
-    ensures { λ r. ⌜ ended (headerMeaning r) (now (out .exit)) ≡ openHeader (codec (now (enc .entry)) (now (mac .entry))) (now (header .entry)) (now (out .entry)) ⌝ }
-    ensures { λ r. ⌜ r .reserved ≡ reservedBeside (openHeader (codec (now (enc .entry)) (now (mac .entry))) (now (header .entry)) (now (out .entry)) .outcome) ⌝ }
+// Opens a header by the combo, under master keys of their size.
+fn open_by(combo: Combo, enc: &[u8], mac: &[u8], header: &[u8], out: &mut [u8]) -> HeaderAnswer
+    requires { ⌜ (length (now enc) ≡ 32) × (length (now mac) ≡ 32) ⌝ }
+    ensures { λ r. ⌜ ended (headerMeaning r) (now (out .exit)) ≡ openHeader (codecWith combo (now (enc .entry)) (now (mac .entry))) (now (header .entry)) (now (out .entry)) ⌝ }
+    ensures { λ r. ⌜ r .reserved ≡ reservedBeside (openHeader (codecWith combo (now (enc .entry)) (now (mac .entry))) (now (header .entry)) (now (out .entry)) .outcome) ⌝ }
 {
-    if !master_keys_right(enc, mac) {
-        return refused(Refusal::KeyOrNonceSize);
-    }
-    if header.len() != 68 {
+    if header.len() != sizes_of(combo).header {
         return refused(Refusal::Length);
     }
     if out.len() < 32 {
@@ -59,7 +76,7 @@ pub fn open_header(enc: &[u8], mac: &[u8], header: &[u8], out: &mut [u8]) -> Hea
     }
     let t = table();
     let mut payload = [0u8; 40];
-    if !siv_gcm::header::open_header(&t, enc, header, &mut payload) {
+    if !vault::header::open_header(combo, &t, enc, mac, header, &mut payload) {
         return refused(Refusal::Header);
     }
     copy_at(&payload[8..40], out, 0);
@@ -69,4 +86,15 @@ pub fn open_header(enc: &[u8], mac: &[u8], header: &[u8], out: &mut [u8]) -> Hea
         answer: Answer::Done(32),
         reserved,
     }
+}
+
+/// Opens a header: writes its content key, 32 bytes, and returns its eight reserved bytes. Rows 1, 4, 7, 9.
+pub fn open_header(enc: &[u8], mac: &[u8], header: &[u8], out: &mut [u8]) -> HeaderAnswer
+    ensures { λ r. ⌜ ended (headerMeaning r) (now (out .exit)) ≡ openHeader (codec (now (enc .entry)) (now (mac .entry))) (now (header .entry)) (now (out .entry)) ⌝ }
+    ensures { λ r. ⌜ r .reserved ≡ reservedBeside (openHeader (codec (now (enc .entry)) (now (mac .entry))) (now (header .entry)) (now (out .entry)) .outcome) ⌝ }
+{
+    if !master_keys_right(enc, mac) {
+        return refused(Refusal::KeyOrNonceSize);
+    }
+    open_by(Combo::SivGcm, enc, mac, header, out)
 }

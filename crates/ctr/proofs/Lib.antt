@@ -1,2 +1,4 @@
 pub mod Counters
+pub mod WideCounters
 pub mod Texts
+pub mod Vectors

@@ -2,24 +2,23 @@
 -- Assumes nothing.
 use Prim.Native.Nat.{ℕ, zero, suc, _+_, _-_, _*_, _/_, _%_, _<_, _≤_}
 use mathlib.Core.Path.{_≡_, refl, sym, _∙_, ap, ap₂}
-use mathlib.Core.List.{List, [], _∷_, _++_}
+use mathlib.Core.List.{List, _++_}
 use mathlib.Core.Logic.{⊎-elim}
 use native.Mathlib.Omega.{arith}
 use lib.Dec.{lit<}
 use lib.ListN.{length, take, drop, getD, length-append, length-drop, List·getD-append}
-use lib.Seq.{getD-append-add, getD-drop, getD-take, length-take-le, ext-getD}
+use lib.Seq.{getD-append-add, getD-drop, getD-take, length-take-le, ext-getD, drop-drop}
 use lib.Bits.{bitXor}
-use Rattle.octets.specs.Bytes.{Bytes}
+use Rattle.octets.specs.Bytes.{Bytes, filled}
 use Rattle.octets.specs.Xors.{xors}
 use Rattle.octets.proofs.Bytes.{below-nil, below-append, bytes-xors}
-use Rattle.octets.proofs.Lists.{le-or-lt}
+use Rattle.octets.proofs.Lists.{le-or-lt, fill-part, filled-length}
 use Rattle.octets.proofs.Xors.{getD-xors, length-xors, xors-twice}
-use Rattle.ctr.specs.Ctr.{blocks, inc32, keystream, ctr}
-use Rattle.ctr.proofs.Counters.{cb, inc-more}
+use Rattle.ctr.specs.Ctr.{blocks, after, BlockCipher, keystream, ctr}
 
 -- ---- over any counter
 
-module _ (inc e : List ℕ → List ℕ) (le : (s : List ℕ) → length (e s) ≡ 16) where
+module _ (inc e : List ℕ → List ℕ) (le : BlockCipher e) where
   pub length-keystream : (c : List ℕ) (m : ℕ) → length (keystream inc e c m) ≡ 16 * m
   unfolding keystream
   length-keystream c zero = refl
@@ -50,52 +49,69 @@ module _ (inc e : List ℕ → List ℕ) (bs : (s : List ℕ) → Bytes (e s)) w
   unfolding ctr
   ctr-bytes c h = bytes-xors h (keystream-bytes c _)
 
--- ---- over a counter of 32 bits
+-- ---- by bytes and parts
 
-module _ (e : List ℕ → List ℕ) (le : (s : List ℕ) → length (e s) ≡ 16) (a : List ℕ) (l : length a ≡ 12) where
-  keystream-at : (m n k : ℕ) → k < 16 * m → getD (keystream inc32 e (cb a n) m) k 0 ≡ getD (e (cb a (n + k / 16))) (k % 16) 0
-  unfolding keystream
-  keystream-at zero n k i = absurd (omega arith)
-  keystream-at (suc m) n k i =
-      let rest = keystream inc32 e (inc32 (cb a n)) m in
+module _ (inc e : List ℕ → List ℕ) (le : BlockCipher e) where
+  keystream-at : (m : ℕ) (c : List ℕ) (k : ℕ) → k < 16 * m → getD (keystream inc e c m) k 0 ≡ getD (e (after inc (k / 16) c)) (k % 16) 0
+  unfolding keystream after
+  keystream-at zero c k i = absurd (omega arith)
+  keystream-at (suc m) c k i =
+      let rest = keystream inc e (inc c) m in
       ⊎-elim (λ (q : 16 ≤ k).
-      let p : k ≡ length (e (cb a n)) + (k - 16) = omega (arith, le (cb a n)) in
-      let b : n + 1 + (k - 16) / 16 ≡ n + k / 16 = omega arith in
+      let p : k ≡ length (e c) + (k - 16) = omega (arith, le c) in
+      let b : suc ((k - 16) / 16) ≡ k / 16 = omega arith in
       let d : (k - 16) % 16 ≡ k % 16 = omega arith in
-      ap (λ (x : ℕ). getD (e (cb a n) ++ rest) x 0) p
-      ∙ getD-append-add (e (cb a n)) rest (k - 16) 0
-      ∙ ap (λ (x : List ℕ). getD (keystream inc32 e x m) (k - 16) 0) (inc-more a l n)
-      ∙ keystream-at m (n + 1) (k - 16) (omega arith) ∙ ap₂ (λ (x y : ℕ). getD (e (cb a x)) y 0) b d)
+      ap (λ (x : ℕ). getD (e c ++ rest) x 0) p
+      ∙ getD-append-add (e c) rest (k - 16) 0
+      ∙ keystream-at m (inc c) (k - 16) (omega arith) ∙ ap₂ (λ (x y : ℕ). getD (e (after inc x c)) y 0) b d)
       (λ (q : k < 16).
-      let b : n ≡ n + k / 16 = omega arith in
+      let b : 0 ≡ k / 16 = omega arith in
       let d : k ≡ k % 16 = omega arith in
-      List·getD-append (e (cb a n)) rest 0 k (omega (arith, le (cb a n))) ∙ ap₂ (λ (x y : ℕ). getD (e (cb a x)) y 0) b d)
+      List·getD-append (e c) rest 0 k (omega (arith, le c)) ∙ ap₂ (λ (x y : ℕ). getD (e (after inc x c)) y 0) b d)
       (le-or-lt 16 k)
 
-  module _ (src : List ℕ) (n : ℕ) where
-    text-at : (k : ℕ) → k < length src → getD (ctr inc32 e (cb a n) src) k 0 ≡ bitXor (getD src k 0) (getD (e (cb a (n + k / 16))) (k % 16) 0)
+  module _ (first src : List ℕ) where
+    text-at : (k : ℕ) → k < length src → getD (ctr inc e first src) k 0 ≡ bitXor (getD src k 0) (getD (e (after inc (k / 16) first)) (k % 16) 0)
     unfolding ctr
     text-at k i =
         let m = blocks (length src) in
-        getD-xors src (keystream inc32 e (cb a n) m) k i (omega (arith, length-keystream inc32 e le (cb a n) m))
-        ∙ ap (bitXor (getD src k 0)) (keystream-at m n k (omega arith))
+        getD-xors src (keystream inc e first m) k i (omega (arith, length-keystream inc e le first m))
+        ∙ ap (bitXor (getD src k 0)) (keystream-at m first k (omega arith))
 
     -- A part of the text that lies in one block of the key stream.
-    pub text-part : (p w : ℕ) → p + w ≤ length src → p % 16 + w ≤ 16
-        → xors (take w (drop p src)) (drop (p % 16) (e (cb a (n + p / 16)))) ≡ take w (drop p (ctr inc32 e (cb a n) src))
+    text-part : (p w : ℕ) → p + w ≤ length src → p % 16 + w ≤ 16
+        → xors (take w (drop p src)) (drop (p % 16) (e (after inc (p / 16) first))) ≡ take w (drop p (ctr inc e first src))
     text-part p w i k =
-        let t = ctr inc32 e (cb a n) src in
-        let b = e (cb a (n + p / 16)) in
-        let m : length b ≡ 16 = le (cb a (n + p / 16)) in
+        let t = ctr inc e first src in
+        let b = e (after inc (p / 16) first) in
+        let m : length b ≡ 16 = le (after inc (p / 16) first) in
         let u : length (drop (p % 16) b) ≡ 16 - p % 16 = length-drop (p % 16) b ∙ ap (λ (x : ℕ). x - p % 16) m in
         let l1 : length (take w (drop p src)) ≡ w = length-take-le w (drop p src) (rw length-drop (omega arith)) in
-        let l2 : length (take w (drop p t)) ≡ w = length-take-le w (drop p t) (rw (length-drop, length-ctr inc32 e le (cb a n) src) (omega arith)) in
+        let l2 : length (take w (drop p t)) ≡ w = length-take-le w (drop p t) (rw (length-drop, length-ctr inc e le first src) (omega arith)) in
         let l3 : length (xors (take w (drop p src)) (drop (p % 16) b)) ≡ w = length-xors (take w (drop p src)) (drop (p % 16) b) (omega arith) ∙ l1 in
         ext-getD 0 (xors (take w (drop p src)) (drop (p % 16) b)) (take w (drop p t)) (l3 ∙ sym l2)
         (λ j f.
         let v : j < w = omega arith in
-        let q : n + p / 16 ≡ n + (p + j) / 16 = omega arith in
+        let q : p / 16 ≡ (p + j) / 16 = omega arith in
         let r : p % 16 + j ≡ (p + j) % 16 = omega arith in
         getD-xors (take w (drop p src)) (drop (p % 16) b) j (omega arith) (omega arith)
-        ∙ ap₂ bitXor (getD-take w (drop p src) j 0 v ∙ getD-drop p src j 0) (getD-drop (p % 16) b j 0 ∙ ap₂ (λ (x y : ℕ). getD (e (cb a x)) y 0) q r)
+        ∙ ap₂ bitXor (getD-take w (drop p src) j 0 v ∙ getD-drop p src j 0) (getD-drop (p % 16) b j 0 ∙ ap₂ (λ (x y : ℕ). getD (e (after inc x first)) y 0) q r)
         ∙ sym (getD-take w (drop p t) j 0 v ∙ getD-drop p t j 0 ∙ text-at (p + j) (omega arith)))
+
+    -- One part more of the text, of w bytes that lie in one block, where the first j bytes of d are those of the text from lo on.
+    pub text-more : (d out : List ℕ) (lo j w : ℕ) {k part : List ℕ} → lo + length d ≤ length src → j + w ≤ length d → (lo + j) % 16 + w ≤ 16
+        → out ≡ filled (drop lo (ctr inc e first src)) j d
+        → k ≡ e (after inc ((lo + j) / 16) first)
+        → part ≡ xors (take (lo + j + w - (lo + j)) (drop (lo + j) src)) (drop ((lo + j) % 16) k)
+        → (length (take j out ++ (part ++ drop (j + w - j) (drop j out))) ≡ length d)
+        × (take j out ++ (part ++ drop (j + w - j) (drop j out)) ≡ filled (drop lo (ctr inc e first src)) (j + w) d)
+    text-more d out lo j w {k} {part} h i m f b g =
+        let text = ctr inc e first src in
+        let t = drop lo text in
+        let u : length t ≡ length src - lo = length-drop lo text ∙ ap (λ (x : ℕ). x - lo) (length-ctr inc e le first src) in
+        let q : lo + j + w - (lo + j) ≡ w = omega arith in
+        let p : part ≡ take w (drop j t) =
+        g ∙ ap₂ (λ (x : ℕ) (y : List ℕ). xors (take x (drop (lo + j) src)) (drop ((lo + j) % 16) y)) q b
+        ∙ text-part (lo + j) w (omega arith) m ∙ ap (take w) (sym (drop-drop j lo text)) in
+        let r = ap (λ (x : List ℕ). take j x ++ (part ++ drop (j + w - j) (drop j x))) f ∙ fill-part t d part j w (omega arith) i p in
+        (ap length r ∙ filled-length t d (j + w) (omega arith) i, r)

@@ -1,4 +1,7 @@
-// Counter mode with AES-256 and a counter of 32 bits, applied from any byte of the text on.
+// Counter mode with AES-256 and a counter of 32 or of 128 bits, applied from any byte of the text on.
+mod counter;
+
+use crate::counter::counter_at;
 use aes::block::Block;
 use aes::block::encrypt;
 use aes::block::to_bytes;
@@ -6,30 +9,14 @@ use octets::slice::copy_at;
 use octets::slice::xor_into;
 use octets::word::put_word;
 use octets::word::word_at;
-use std::num::wrapping_add_u32;
 ghost use mathlib.Core.Path.{_≡_};
-ghost use mathlib.Core.List.{_++_};
 ghost use Prim.Native.Nat.{_<_, _≤_, _+_};
 ghost use lib.ListN.{length, take, drop};
-ghost use Rattle.octets.specs.BigEndian.{be};
 ghost use Rattle.octets.specs.Xors.{xors};
 ghost use Rattle.aes_spec.specs.RoundTable.{roundTable};
 ghost use Rattle.aes_spec.specs.Cipher.{cipher};
 ghost use Rattle.aes.specs.Blocks.{state};
 ghost use Rattle.ctr.specs.Ctr as spec;
-
-// The counter block that comes i after the first: the last word counts.
-fn counter_at(first: Block, i: usize) -> Block
-    ensures { λ _. ⌜ state first ≡ take 12 (state first) ++ be 4 (first .d) ⌝ }
-    ensures { λ r. ⌜ state r ≡ take 12 (state first) ++ be 4 (first .d + i) ⌝ }
-{
-    Block {
-        a: first.a,
-        b: first.b,
-        c: first.c,
-        d: wrapping_add_u32(first.d, (i % 4294967296) as u32),
-    }
-}
 
 // How many of the bytes that are left lie in the same block as its byte r.
 fn in_block(r: usize, left: usize) -> usize
@@ -70,11 +57,19 @@ fn apply(t: &[u32; 256], w: &[u32], c: Block, r: usize, src: &[u8], out: &mut [u
 }
 
 // Writes to out the bytes from lo on of the text that src becomes, as many as out holds. The first counter block is that of
-// the first byte of src.
-pub fn crypt(t: &[u32; 256], w: &[u32], first: Block, src: &[u8], lo: usize, out: &mut [u8])
+// the first byte of src; `wide` tells whether all of it counts.
+fn crypt_from(
+    t: &[u32; 256],
+    w: &[u32],
+    wide: bool,
+    first: Block,
+    src: &[u8],
+    lo: usize,
+    out: &mut [u8],
+)
     requires { ⌜ now t ≡ roundTable ⌝ }
     requires { ⌜ (60 ≤ length (now w)) × (lo + length (now out) ≤ length (now src)) ⌝ }
-    ensures { λ _. ⌜ now (out .exit) ≡ take (length (now (out .entry))) (drop lo (spec.ctr spec.inc32 (cipher 14 (now (w .entry))) (state first) (now (src .entry)))) ⌝ }
+    ensures { λ _. ⌜ now (out .exit) ≡ take (length (now (out .entry))) (drop lo (spec.ctr (spec.incOf wide) (cipher 14 (now (w .entry))) (state first) (now (src .entry)))) ⌝ }
 {
     let mut j = 0;
     while j < out.len() {
@@ -82,8 +77,27 @@ pub fn crypt(t: &[u32; 256], w: &[u32], first: Block, src: &[u8], lo: usize, out
         let n = in_block(p % 16, out.len() - j);
         let e = j + n;
         let q = p + n;
-        let c = counter_at(first, p / 16);
+        let c = counter_at(wide, first, p / 16);
         apply(t, w, c, p % 16, &src[p..q], &mut out[j..e]);
         j = e;
     }
+}
+
+// Writes to out the bytes from lo on of the text that src becomes, as many as out holds. The first counter block is that of
+// the first byte of src.
+pub fn crypt(t: &[u32; 256], w: &[u32], first: Block, src: &[u8], lo: usize, out: &mut [u8])
+    requires { ⌜ now t ≡ roundTable ⌝ }
+    requires { ⌜ (60 ≤ length (now w)) × (lo + length (now out) ≤ length (now src)) ⌝ }
+    ensures { λ _. ⌜ now (out .exit) ≡ take (length (now (out .entry))) (drop lo (spec.ctr spec.inc32 (cipher 14 (now (w .entry))) (state first) (now (src .entry)))) ⌝ }
+{
+    crypt_from(t, w, false, first, src, lo, out);
+}
+
+// The same with a counter of 128 bits.
+pub fn crypt128(t: &[u32; 256], w: &[u32], first: Block, src: &[u8], lo: usize, out: &mut [u8])
+    requires { ⌜ now t ≡ roundTable ⌝ }
+    requires { ⌜ (60 ≤ length (now w)) × (lo + length (now out) ≤ length (now src)) ⌝ }
+    ensures { λ _. ⌜ now (out .exit) ≡ take (length (now (out .entry))) (drop lo (spec.ctr spec.inc128 (cipher 14 (now (w .entry))) (state first) (now (src .entry)))) ⌝ }
+{
+    crypt_from(t, w, true, first, src, lo, out);
 }

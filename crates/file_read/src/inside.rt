@@ -1,4 +1,4 @@
-// A range read once its sizes are known to fit: the header, every covering tag, and only then the cleartext.
+// A range read once its sizes are known to fit: the header, every covering tag or MAC, and only then the cleartext.
 use crate::chunks::end_chunk;
 use crate::chunks::lowest_bad;
 use crate::range::write_range;
@@ -6,24 +6,27 @@ use aes::round_table::table;
 use answer::Answer;
 use answer::Refusal;
 use gcm::key::prepare;
-use siv_gcm::header::open_header;
+use vault::header::open_header;
+use vault::record::Combo;
+use vault::sizes::sizes_of;
 ghost use mathlib.Core.Path.{_≡_};
 ghost use mathlib.Core.Bool.{true};
-ghost use mathlib.Core.List.{List};
-ghost use Prim.Native.Nat.{ℕ, _+_, _≤_, _<_};
+ghost use Prim.Native.Nat.{_+_, _≤_};
 ghost use lib.ListN.{length, take};
 ghost use Rattle.octets.specs.Rows.{ended};
 ghost use Rattle.aes_spec.specs.RoundTable.{roundTable};
 ghost use Rattle.frame.specs.Layout.{fileLength, clearLength, rightLength};
 ghost use Rattle.frame.specs.Frame.{readRange};
-ghost use Rattle.siv_gcm.specs.SivGcm.{sivGcm, masterKeysRight, codec};
+ghost use Rattle.vault.specs.Vault.{sizesOf, codecWith};
 ghost use Rattle.answer.specs.Meaning.{meaning};
 ghost use Rattle.file_read.specs.Under.{readUnder};
 
-// Reads the range of a file of n bytes of cleartext under its content key.
+// Reads the range of a file of n bytes of cleartext under its content key and the MAC master key.
 fn read_under(
+    combo: Combo,
     t: &[u32; 256],
     key: &[u8],
+    mac: &[u8],
     file: &[u8],
     n: usize,
     from: usize,
@@ -31,38 +34,42 @@ fn read_under(
     out: &mut [u8],
 ) -> Answer
     requires { ⌜ now t ≡ roundTable ⌝ }
-    requires { ⌜ (length (now key) ≡ 32) × (length (now file) ≡ fileLength sivGcm n) × (from + count ≤ n) × (count ≤ length (now out)) ⌝ }
-    ensures { λ r. ⌜ ended (meaning r) (now (out .exit)) ≡ readUnder (take 12 (now (file .entry))) (now (key .entry)) (now (file .entry)) from count (now (out .entry)) ⌝ }
+    requires { ⌜ (length (now key) ≡ 32) × (length (now file) ≡ fileLength (sizesOf combo) n) × (from + count ≤ n) × (count ≤ length (now out)) ⌝ }
+    ensures { λ r. ⌜ ended (meaning r) (now (out .exit)) ≡ readUnder combo (now (mac .entry)) (take (sizesOf combo .nonce) (now (file .entry))) (now (key .entry)) (now (file .entry)) from count (now (out .entry)) ⌝ }
 {
     let mut w = [0u32; 60];
     let mut m = [0u64; 32];
     prepare(t, key, &mut w, &mut m);
     let first = from / 32768;
     let e = end_chunk(from, count);
-    let i = lowest_bad(t, &w, &m, &file[..12], file, n, first, e);
+    let s = sizes_of(combo).nonce;
+    let i = lowest_bad(combo, t, &w, &m, mac, &file[..s], file, n, first, e);
     if i < e {
         return Answer::Refused(Refusal::Chunk(i as u64));
     }
-    write_range(t, &w, file, n, from, count, out);
+    write_range(combo, t, &w, mac, file, n, from, count, out);
     Answer::Done(count)
 }
 
 // Reads a range that lies inside, into a buffer with room.
 pub fn read_inside(
+    combo: Combo,
     enc: &[u8],
+    mac: &[u8],
     file: &[u8],
     n: usize,
     from: usize,
     count: usize,
     out: &mut [u8],
 ) -> Answer
-    requires { ⌜ (length (now enc) ≡ 32) × (rightLength sivGcm (length (now file)) ≡ true) × (n ≡ clearLength sivGcm (length (now file))) × (from + count ≤ n) × (count ≤ length (now out)) ⌝ }
-    ensures { λ r. ⌜ ((mac : List ℕ) → masterKeysRight (now (enc .entry)) mac ≡ true → ended (meaning r) (now (out .exit)) ≡ readRange (codec (now (enc .entry)) mac) (now (file .entry)) from count (now (out .entry))) ⌝ }
+    requires { ⌜ (length (now enc) ≡ 32) × (length (now mac) ≡ 32) × (rightLength (sizesOf combo) (length (now file)) ≡ true) × (n ≡ clearLength (sizesOf combo) (length (now file))) × (from + count ≤ n) × (count ≤ length (now out)) ⌝ }
+    ensures { λ r. ⌜ ended (meaning r) (now (out .exit)) ≡ readRange (codecWith combo (now (enc .entry)) (now (mac .entry))) (now (file .entry)) from count (now (out .entry)) ⌝ }
 {
     let t = table();
     let mut payload = [0u8; 40];
-    if !open_header(&t, enc, &file[..68], &mut payload) {
+    let h = sizes_of(combo).header;
+    if !open_header(combo, &t, enc, mac, &file[..h], &mut payload) {
         return Answer::Refused(Refusal::Header);
     }
-    read_under(&t, &payload[8..40], file, n, from, count, out)
+    read_under(combo, &t, &payload[8..40], mac, file, n, from, count, out)
 }

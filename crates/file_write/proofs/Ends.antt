@@ -15,15 +15,20 @@ use Rattle.octets.proofs.Lists.{placed-rest}
 use Rattle.octets.proofs.Rows.{first-answers, none-answers}
 use Rattle.octets.specs.Bytes.{filled}
 use Rattle.frame.specs.Layout.{limit, chunks, repeats, fileLength}
-use Rattle.frame.specs.Frame.{Codec, Choice, ownHead, headRight, fileOf, writeRows, writeFile}
-use Rattle.siv_gcm.proofs.KeySizes.{master-sizes, head-sizes}
-use Rattle.siv_gcm.specs.SivGcm.{sivGcm, masterKeysRight}
+use Rattle.frame.specs.Frame.{Codec, Choice, headRight, fileOf, writeRows, writeFile}
+use Rattle.frame.proofs.Rules.{head-sizes}
 
-module _ (C : Codec) (c : Choice) (out : List ℕ) where
+module _ (C : Codec) (c : Choice) where
   open Codec C using (sizes as z, keysRight)
 
-  abbrev sizesRight : Bool
+  abbrev pub sizesRight : Bool
   sizesRight = keysRight && (headRight z (c .head) && eqb (length (c .nonces)) (z .nonce * chunks (length (c .clear))))
+
+  pub sizes-facts : sizesRight ≡ true → (length (c .head .nonce) ≡ z .nonce) × (length (c .head .key) ≡ 32) × (length (c .nonces) ≡ z .nonce * chunks (length (c .clear)))
+  sizes-facts e =
+      let q = and-true (headRight z (c .head)) _ (and-true keysRight _ e .1) in
+      let h = head-sizes z (c .head) .0 (q .0) in
+      (h .0, h .1, eqb-true _ _ (q .1))
 
   abbrev size : ℕ
   size = fileLength z (length (c .clear))
@@ -31,46 +36,39 @@ module _ (C : Codec) (c : Choice) (out : List ℕ) where
   abbrev again : Bool
   again = repeats (z .nonce) (chunks (length (c .clear))) (c .nonces)
 
-  ends : (o : Outcome) → answer (writeRows C c (length out)) (done (size ∷ [])) ≡ o → ending o (filled (fileOf C c) size out) out ≡ writeFile C c out
-  unfolding writeFile
-  ends o e = sym (ap (λ (x : Outcome). ending x (filled (fileOf C c) size out) out) e)
+  module _ (out : List ℕ) where
+    ends : (o : Outcome) → answer (writeRows C c (length out)) (done (size ∷ [])) ≡ o → ending o (filled (fileOf C c) size out) out ≡ writeFile C c out
+    unfolding writeFile
+    ends o e = sym (ap (λ (x : Outcome). ending x (filled (fileOf C c) size out) out) e)
 
-  pub row-1 : sizesRight ≡ false → ended (refused 1) out ≡ writeFile C c out
-  unfolding writeRows
-  row-1 e = ends (refused 1) (first-answers (writeRows C c (length out)) (done (size ∷ [])) 0 (ap not e))
-
-  module _ (k : sizesRight ≡ true) where
-    pub row-4 : limit < length (c .clear) → ended (refused 4) out ≡ writeFile C c out
+    pub row-1 : sizesRight ≡ false → ended (refused 1) out ≡ writeFile C c out
     unfolding writeRows
-    row-4 h = ends (refused 4) (first-answers (writeRows C c (length out)) (done (size ∷ [])) 1 (ap not k, lt-ltb limit (length (c .clear)) h))
+    row-1 e = ends (refused 1) (first-answers (writeRows C c (length out)) (done (size ∷ [])) 0 (ap not e))
 
-    module _ (m : length (c .clear) ≤ limit) where
-      pub row-7 : length out < size → ended (refused 7) out ≡ writeFile C c out
+    module _ (k : sizesRight ≡ true) where
+      pub row-4 : limit < length (c .clear) → ended (refused 4) out ≡ writeFile C c out
       unfolding writeRows
-      row-7 h = ends (refused 7) (first-answers (writeRows C c (length out)) (done (size ∷ [])) 2 (ap not k, (le-ltb limit (length (c .clear)) m, lt-ltb (length out) size h)))
+      row-4 h = ends (refused 4) (first-answers (writeRows C c (length out)) (done (size ∷ [])) 1 (ap not k, lt-ltb limit (length (c .clear)) h))
 
-      module _ (r : size ≤ length out) where
-        pub row-8 : again ≡ true → ended (refused 8) out ≡ writeFile C c out
+      module _ (m : length (c .clear) ≤ limit) where
+        pub row-7 : length out < size → ended (refused 7) out ≡ writeFile C c out
         unfolding writeRows
-        row-8 e =
-            ends (refused 8)
-            (first-answers (writeRows C c (length out)) (done (size ∷ [])) 3 (ap not k, (le-ltb limit (length (c .clear)) m, (le-ltb (length out) size r, e))))
+        row-7 h = ends (refused 7) (first-answers (writeRows C c (length out)) (done (size ∷ [])) 2 (ap not k, (le-ltb limit (length (c .clear)) m, lt-ltb (length out) size h)))
 
-        -- the file, of its length, at the front of the buffer
-        pub no-row : again ≡ false → (f : List ℕ) → f ≡ fileOf C c → length f ≡ size → ended (done (size ∷ [])) (f ++ drop size out) ≡ writeFile C c out
-        unfolding writeRows
-        no-row e f q l =
-            ap (λ (x : List ℕ). ended (done (size ∷ [])) (x ++ drop size out)) (sym (take-all size f (omega arith)) ∙ ap (take size) q)
-            ∙ ends (done (size ∷ []))
-            (none-answers (writeRows C c (length out)) (done (size ∷ [])) (ap not k, (le-ltb limit (length (c .clear)) m, (le-ltb (length out) size r, (e, tt)))))
+        module _ (r : size ≤ length out) where
+          pub row-8 : again ≡ true → ended (refused 8) out ≡ writeFile C c out
+          unfolding writeRows
+          row-8 e =
+              ends (refused 8)
+              (first-answers (writeRows C c (length out)) (done (size ∷ [])) 3 (ap not k, (le-ltb limit (length (c .clear)) m, (le-ltb (length out) size r, e))))
 
-pub sizes-facts : (enc mac n k ns : List ℕ) (m : ℕ) → (masterKeysRight enc mac && (headRight sivGcm (ownHead n k) && eqb (length ns) (12 * chunks m))) ≡ true
-    → (length enc ≡ 32) × (length n ≡ 12) × (length k ≡ 32) × (length ns ≡ 12 * chunks m)
-sizes-facts enc mac n k ns m e =
-    let p = and-true (masterKeysRight enc mac) _ e in
-    let q = and-true (headRight sivGcm (ownHead n k)) _ (p .1) in
-    let h = head-sizes n k (q .0) in
-    (master-sizes enc mac (p .0) .0, h .0, h .1, eqb-true _ _ (q .1))
+          -- the file, of its length, at the front of the buffer
+          pub no-row : again ≡ false → (f : List ℕ) → f ≡ fileOf C c → length f ≡ size → ended (done (size ∷ [])) (f ++ drop size out) ≡ writeFile C c out
+          unfolding writeRows
+          no-row e f q l =
+              ap (λ (x : List ℕ). ended (done (size ∷ [])) (x ++ drop size out)) (sym (take-all size f (omega arith)) ∙ ap (take size) q)
+              ∙ ends (done (size ∷ []))
+              (none-answers (writeRows C c (length out)) (done (size ∷ [])) (ap not k, (le-ltb limit (length (c .clear)) m, (le-ltb (length out) size r, (e, tt)))))
 
 -- What becomes of the first n places of a buffer keeps their length.
 pub front-length : (v d : List ℕ) (n : ℕ) → n ≤ length d → length (v ++ drop n d) ≡ length d → length v ≡ n

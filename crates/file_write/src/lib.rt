@@ -1,4 +1,4 @@
-// The file writer in the cipher combo SIV_GCM, under the encryption master key enc and the MAC master key mac.
+// The file writer, by the cipher combo, under the encryption master key enc and the MAC master key mac.
 mod chunks;
 mod nonces;
 
@@ -7,60 +7,103 @@ use crate::nonces::repeats;
 use answer::Answer;
 use answer::Refusal;
 use gcm::key::prepare;
-use siv_gcm::header::seal_header;
-use siv_gcm::sizes::head_right;
 use siv_gcm::sizes::master_keys_right;
+use vault::header::seal_header;
+use vault::lengths::file_length;
+use vault::record::Combo;
+use vault::sizes::sizes_of;
 ghost use mathlib.Core.Path.{_≡_};
 ghost use mathlib.Core.Bool.{_&&_};
-ghost use mathlib.Core.List.{List};
-ghost use Prim.Native.Nat.{ℕ, _*_};
+ghost use Prim.Native.Nat.{_*_, _≤_};
 ghost use lib.ListN.{length};
 ghost use lib.Dec.{eqb};
 ghost use Rattle.octets.specs.Rows.{ended};
 ghost use Rattle.frame.specs.Layout.{chunks, fileLength};
-ghost use Rattle.frame.specs.Frame.{ownHead, ownChoice, headRight, fileOf, writeFile};
-ghost use Rattle.siv_gcm.specs.SivGcm.{sivGcm, masterKeysRight, codec};
+ghost use Rattle.frame.specs.Frame.{ownChoice, fileOf, writeFile};
+ghost use Rattle.siv_gcm.specs.SivGcm.{codec};
 ghost use Rattle.answer.specs.Meaning.{meaning};
+ghost use Rattle.vault.specs.Vault.{sizesOf, codecWith};
 
-// Do the keys and nonces have their sizes, and is there a nonce for each chunk of n bytes of cleartext?
-fn sizes_right(
-    enc: &[u8],
-    mac: &[u8],
-    header_nonce: &[u8],
-    key: &[u8],
-    nonces: &[u8],
-    n: usize,
-) -> bool
-    ensures { λ r. ⌜ r ≡ (masterKeysRight (now (enc .entry)) (now (mac .entry)) && (headRight sivGcm (ownHead (now («header_nonce» .entry)) (now (key .entry))) && eqb (length (now (nonces .entry))) (12 * chunks n))) ⌝ }
+// Do the header's nonce and the content key have their sizes, and is there a nonce of w bytes for each chunk of n bytes of cleartext?
+fn sizes_right(w: usize, header_nonce: &[u8], key: &[u8], nonces: &[u8], n: usize) -> bool
+    requires { ⌜ w ≤ 16 ⌝ }
+    ensures { λ r. ⌜ r ≡ ((eqb (length (now («header_nonce» .entry))) w && eqb (length (now (key .entry))) 32) && eqb (length (now (nonces .entry))) (w * chunks n)) ⌝ }
 {
-    if !master_keys_right(enc, mac) {
+    if header_nonce.len() != w {
         return false;
     }
-    if !head_right(header_nonce, key) {
+    if key.len() != 32 {
         return false;
     }
-    nonces.len() == 12 * frame::chunks(n)
+    nonces.len() == w * frame::chunks(n)
 }
 
-// Writes the file to out, which has just its length: the header, and then the chunks. The MAC master key plays no part.
+// Writes the file to out, which has just its length: the header, and then the chunks.
 fn seal_file(
+    combo: Combo,
     enc: &[u8],
+    mac: &[u8],
     header_nonce: &[u8],
     key: &[u8],
     nonces: &[u8],
     cleartext: &[u8],
     out: &mut [u8],
 )
-    requires { ⌜ (length (now enc) ≡ 32) × (length (now «header_nonce») ≡ 12) × (length (now key) ≡ 32) ⌝ }
-    requires { ⌜ (length (now nonces) ≡ 12 * chunks (length (now cleartext))) × (length (now out) ≡ fileLength sivGcm (length (now cleartext))) ⌝ }
-    ensures { λ _. ⌜ ((mac : List ℕ) → now (out .exit) ≡ fileOf (codec (now (enc .entry)) mac) (ownChoice (now («header_nonce» .entry)) (now (key .entry)) (now (nonces .entry)) (now (cleartext .entry)))) ⌝ }
+    requires { ⌜ (length (now enc) ≡ 32) × (length (now «header_nonce») ≡ sizesOf combo .nonce) × (length (now key) ≡ 32) ⌝ }
+    requires { ⌜ (length (now nonces) ≡ sizesOf combo .nonce * chunks (length (now cleartext))) × (length (now out) ≡ fileLength (sizesOf combo) (length (now cleartext))) ⌝ }
+    ensures { λ _. ⌜ now (out .exit) ≡ fileOf (codecWith combo (now (enc .entry)) (now (mac .entry))) (ownChoice (now («header_nonce» .entry)) (now (key .entry)) (now (nonces .entry)) (now (cleartext .entry))) ⌝ }
 {
     let t = aes::round_table::table();
-    seal_header(&t, enc, header_nonce, key, &mut out[..68]);
+    let header = sizes_of(combo).header;
+    seal_header(combo, &t, enc, mac, header_nonce, key, &mut out[..header]);
     let mut w = [0u32; 60];
     let mut m = [0u64; 32];
     prepare(&t, key, &mut w, &mut m);
-    write_chunks(&t, &w, &m, header_nonce, nonces, cleartext, &mut out[68..]);
+    write_chunks(
+        combo,
+        &t,
+        &w,
+        &m,
+        mac,
+        header_nonce,
+        nonces,
+        cleartext,
+        &mut out[header..],
+    );
+}
+
+// Writes the file by the combo, under master keys of their size.
+fn write_by(
+    combo: Combo,
+    enc: &[u8],
+    mac: &[u8],
+    header_nonce: &[u8],
+    key: &[u8],
+    nonces: &[u8],
+    cleartext: &[u8],
+    out: &mut [u8],
+) -> Answer
+    requires { ⌜ (length (now enc) ≡ 32) × (length (now mac) ≡ 32) ⌝ }
+    ensures { λ r. ⌜ ended (meaning r) (now (out .exit)) ≡ writeFile (codecWith combo (now (enc .entry)) (now (mac .entry))) (ownChoice (now («header_nonce» .entry)) (now (key .entry)) (now (nonces .entry)) (now (cleartext .entry))) (now (out .entry)) ⌝ }
+{
+    let n = cleartext.len();
+    let w = sizes_of(combo).nonce;
+    if !sizes_right(w, header_nonce, key, nonces, n) {
+        return Answer::Refused(Refusal::KeyOrNonceSize);
+    }
+    if n > 16777216 {
+        return Answer::Refused(Refusal::Length);
+    }
+    let size = file_length(combo, n);
+    if out.len() < size {
+        return Answer::Refused(Refusal::Room);
+    }
+    if repeats(w, frame::chunks(n), nonces) {
+        return Answer::Refused(Refusal::RepeatedNonce);
+    }
+    let file = &mut out[..size];
+    seal_file(combo, enc, mac, header_nonce, key, nonces, cleartext, file);
+    Answer::Done(size)
 }
 
 /// Writes the file of a cleartext to the front of out, and answers its length. `nonces` has 12 bytes for each chunk, in order.
@@ -76,20 +119,17 @@ pub fn write_file(
 ) -> Answer
     ensures { λ r. ⌜ ended (meaning r) (now (out .exit)) ≡ writeFile (codec (now (enc .entry)) (now (mac .entry))) (ownChoice (now («header_nonce» .entry)) (now (key .entry)) (now (nonces .entry)) (now (cleartext .entry))) (now (out .entry)) ⌝ }
 {
-    let n = cleartext.len();
-    if !sizes_right(enc, mac, header_nonce, key, nonces, n) {
+    if !master_keys_right(enc, mac) {
         return Answer::Refused(Refusal::KeyOrNonceSize);
     }
-    if n > 16777216 {
-        return Answer::Refused(Refusal::Length);
-    }
-    let size = 68 + n + 28 * frame::chunks(n);
-    if out.len() < size {
-        return Answer::Refused(Refusal::Room);
-    }
-    if repeats(nonces) {
-        return Answer::Refused(Refusal::RepeatedNonce);
-    }
-    seal_file(enc, header_nonce, key, nonces, cleartext, &mut out[..size]);
-    Answer::Done(size)
+    write_by(
+        Combo::SivGcm,
+        enc,
+        mac,
+        header_nonce,
+        key,
+        nonces,
+        cleartext,
+        out,
+    )
 }

@@ -16,7 +16,7 @@ pub record Head : Type 0 where
   pub reserved : List ℕ
   pub key : List ℕ
 
--- A cipher combo under its master keys.
+-- A cipher combo under its master keys. What it tests is called the tag, also where it is a MAC.
 pub record Codec : Type 0 where
   pub sizes : Sizes
   -- the master keys have the size that row 1 asks for
@@ -80,6 +80,10 @@ pub record Fits (z : Sizes) (c : Choice) : Type 0 where
   pub clear-size : length (c .clear) ≤ limit
   pub nonces-bytes : Bytes (c .nonces)
   pub clear-bytes : Bytes (c .clear)
+
+-- The test for the sizes of the master keys enc and mac: both, also where one is not used.
+unfoldable pub masterKeysRight : List ℕ → List ℕ → Bool
+masterKeysRight enc mac = eqb (length enc) keySize && eqb (length mac) keySize
 
 -- The test for the sizes of a header nonce and a content key.
 abbrev pub headRight : Sizes → Head → Bool

@@ -105,7 +105,7 @@ module _ (C : Codec) (Keys : Type 0) where
       )
       ∷ []
 
--- The calls on a chunk are lent no master key.
+-- The calls on a chunk ask nothing of the master keys.
 module _ (C : Codec) where
   open Codec C using (sizes as z, good)
   open Sizes z using (nonce, overhead)

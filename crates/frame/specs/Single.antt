@@ -54,8 +54,8 @@ module _ (C : Codec) where
   unfoldable pub openHeader : List ℕ → List ℕ → End
   openHeader b out = ending (answer (openHeaderRows b (length out)) (done (keySize ∷ headOf b .reserved))) (filled (headOf b .key) keySize out) out
 
-  -- writing chunk i of the nonce n and the cleartext p: the calls on a chunk are lent the header's nonce and the content key, and no master key,
-  -- so row 1 goes by those two and the chunk's nonce; no cleartext or more than a chunk holds (4), the buffer too short (7)
+  -- writing chunk i of the nonce n and the cleartext p: row 1 goes by the chunk's nonce, the header's nonce and the content key, and not by the
+  -- master keys; no cleartext or more than a chunk holds (4), the buffer too short (7)
   unfoldable pub writeChunkRows : Head → List ℕ → List ℕ → ℕ → List Row
   writeChunkRows h n p room =
       (not (headRight z h && eqb (length n) nonce), refused 1)

@@ -14,7 +14,8 @@ use Rattle.ctr.specs.Ctr.{inc32, keystream, ctr}
 use Rattle.gcm.specs.Field.{next, mulFrom, mul}
 use Rattle.gcm.specs.Gcm.{ghashFrom, ghash, pad, subkey, j0, crypt, hashed, tag, seal, good, plain}
 use Rattle.frame.specs.Single.{openHeaderRows, openHeader}
-use Rattle.siv_gcm.specs.SivGcm.{sealed, opens, opened, chunkData, headerOf, headOf, headerGood, masterKeysRight}
+use Rattle.frame.specs.Frame.{masterKeysRight}
+use Rattle.siv_gcm.specs.SivGcm.{sealed, opens, opened, chunkData, headerOf, headOf, headerGood}
 use Rattle.known_answers.specs.Content.{StockHeader, StockChunk, DistinctHeader, ReservedHeader, ReservedHeaderOpens, DistinctChunk}
 
 pub stock-header : StockHeader

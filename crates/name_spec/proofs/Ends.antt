@@ -11,7 +11,7 @@ use borrow.Author.Tests.{le-leb, lt-leb}
 use Rattle.octets.specs.Bytes.{filled, same}
 use Rattle.octets.specs.Rows.{Outcome, done, Row, answer, First, NoRow, outcomeAt, numbered, End, ended, ending, EndsExactly, Rule, Exactly}
 use Rattle.octets.proofs.Rows.{ends-exactly, Matches, ends-by}
-use Rattle.siv_gcm.specs.SivGcm.{masterKeysRight}
+use Rattle.frame.specs.Frame.{masterKeysRight}
 use Rattle.name_spec.specs.Names.{threshold, idRight, path, fullName, fullLength, hashName, short, storedName, textRight, nameLength, nameOf}
 use Rattle.name_spec.specs.Calls.{pathLength, hashLength, storedLength, writtenLengths, NameEnd, nameEnded, nameEnding, dirPathRows, dirPath, writeNameRows, writeName, openTextRows, openText, openNameRows, openName, openLongNameRows, openLongName}
 use Rattle.name_spec.specs.Statements.{NameEndsBy}

@@ -14,8 +14,8 @@ use Rattle.octets.proofs.Equality.{true-false, same-self}
 use Rattle.octets.proofs.Rows.{Met, met-exactly, succeeds-exactly, none-ends}
 use Rattle.aes_spec.specs.Cipher.{aes}
 use Rattle.siv.specs.Siv.{s2v}
-use Rattle.siv_gcm.specs.SivGcm.{masterKeysRight}
-use Rattle.siv_gcm.proofs.KeySizes.{keys-exactly}
+use Rattle.frame.specs.Frame.{masterKeysRight}
+use Rattle.frame.proofs.KeySizes.{keys-exactly}
 use Rattle.utf8.specs.ProperText.{properText, ProperText}
 use Rattle.utf8.proofs.ProperText.{encoding-bytes, proper-text-exactly}
 use Rattle.name_spec.specs.Names.{threshold, idRight, path, fullName, fullLength, hashName, textRight, nameLength, nameOf, nameGood}

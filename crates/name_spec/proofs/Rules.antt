@@ -14,7 +14,7 @@ use Rattle.octets.specs.Rows.{refused}
 use Rattle.octets.proofs.Bytes.{below-nil, below-cons}
 use Rattle.octets.proofs.Tests.{self, leb-exactly, leb-fails, ltb-fails, both-exactly, not-fails, or-fails, same-exactly}
 use Rattle.octets.proofs.Rows.{Matches, ends-by}
-use Rattle.siv_gcm.proofs.KeySizes.{keys-exactly}
+use Rattle.frame.proofs.KeySizes.{keys-exactly}
 use Rattle.utf8.specs.ProperText.{ProperText}
 use Rattle.utf8.proofs.ProperText.{proper-text-exactly}
 use Rattle.name_spec.specs.Names.{nameLimit, ascii, idRight, nameRight, path, fullName, fullLength, hashName, short, storedName, textRight, nameLength, nameOf, nameGood}

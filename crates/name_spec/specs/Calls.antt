@@ -7,7 +7,7 @@ use lib.ListN.{length}
 use lib.Dec.{ltb}
 use Rattle.octets.specs.Bytes.{filled, same}
 use Rattle.octets.specs.Rows.{Outcome, done, refused, Row, answer, End, ending, leaves}
-use Rattle.siv_gcm.specs.SivGcm.{masterKeysRight}
+use Rattle.frame.specs.Frame.{masterKeysRight}
 use Rattle.utf8.specs.ProperText.{properText}
 use Rattle.name_spec.specs.Names.{idRight, nameRight, path, fullName, fullLength, hashName, short, storedName, textRight, nameLength, nameOf, nameGood}
 

@@ -11,7 +11,7 @@ ghost use Rattle.octets.specs.Bytes.{placed};
 ghost use Rattle.aes_spec.specs.Cipher.{aes};
 ghost use Rattle.siv.specs.Siv as spec;
 ghost use Rattle.siv.specs.Pieces.{pieces};
-ghost use Rattle.siv_gcm.specs.SivGcm.{masterKeysRight};
+ghost use Rattle.frame.specs.Frame.{masterKeysRight};
 ghost use Rattle.name_spec.specs.Names.{nameLimit, ivSize};
 
 // Writes the sealed cleartext to the front of out; ad is the associated data, if it is given.

@@ -9,7 +9,7 @@ ghost use mathlib.Core.Bool.{true};
 ghost use Prim.Native.Nat.{_≤_};
 ghost use lib.ListN.{length};
 ghost use Rattle.octets.specs.Bytes.{placed};
-ghost use Rattle.siv_gcm.specs.SivGcm.{masterKeysRight};
+ghost use Rattle.frame.specs.Frame.{masterKeysRight};
 ghost use Rattle.name_spec.specs.Names as spec;
 ghost use Rattle.name_spec.specs.Calls.{pathLength};
 

@@ -15,7 +15,7 @@ ghost use Prim.Native.Nat.{_≤_};
 ghost use lib.ListN.{length};
 ghost use Rattle.octets.specs.Bytes.{placed, same};
 ghost use Rattle.octets.specs.Rows.{ended};
-ghost use Rattle.siv_gcm.specs.SivGcm.{masterKeysRight};
+ghost use Rattle.frame.specs.Frame.{masterKeysRight};
 ghost use Rattle.name_spec.specs.Names as spec;
 ghost use Rattle.answer.specs.Meaning.{meaning};
 ghost use Rattle.name_spec.specs.Calls.{hashLength, openText};

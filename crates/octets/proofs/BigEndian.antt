@@ -1,7 +1,7 @@
 -- Laws of numbers as byte strings, and of words.
 -- Assumes nothing.
 use Prim.Native.Nat.{ℕ, zero, suc, _+_, _-_, _*_, _/_, _%_, _^_, _<_}
-use mathlib.Core.Path.{_≡_, refl, sym, _∙_, ap}
+use mathlib.Core.Path.{_≡_, refl, sym, _∙_, ap, ap₂}
 use mathlib.Core.List.{List, [], _∷_, _++_, append-assoc, append-nil}
 use native.Mathlib.Omega.{arith}
 use native.Mathlib.Nat.{div-div-eq-div-mul, mod-eq-of-lt, mul-assoc, add-zero, pow-suc, mod-one, zero-lt-suc, mod-lt, mul-add-div-right, mul-add-mod-self-right, one-le-pow}
@@ -11,7 +11,7 @@ use lib.ListN.{length, length-append}
 use Rattle.octets.specs.Bytes.{Bytes}
 use Rattle.octets.specs.Words.{word, wordAt, b0, b1, b2, b3, wordBytes}
 use Rattle.octets.proofs.Words.{parts}
-use Rattle.octets.proofs.Bytes.{below-drop}
+use Rattle.octets.proofs.Bytes.{below-drop, bytes-be}
 use Rattle.octets.specs.BigEndian.{intFrom, int, be}
 
 pub int-append : (x : ℕ) (s t : List ℕ) → intFrom x (s ++ t) ≡ intFrom (intFrom x s) t
@@ -104,6 +104,13 @@ pub be-four : (n : ℕ) → n < 2 ^ 32 → be 4 n ≡ wordBytes (n ∷ [])
 unfolding be
 be-four n h = be-word 0 n ∙ ap (λ (x : ℕ). wordBytes (x ∷ [])) (mod-eq-of-lt h)
 
+-- The eight bytes of a number, by its two words.
+pub be-eight : (n : ℕ) → n < 2 ^ 64 → wordBytes (n / 2 ^ 32 ∷ n % 2 ^ 32 ∷ []) ≡ be 8 n
+unfolding wordBytes
+be-eight n h =
+    let k : n / 2 ^ 32 < 2 ^ 32 = omega arith in
+    sym (be-word 4 n ∙ ap (λ (x : List ℕ). x ++ wordBytes (n % 2 ^ 32 ∷ [])) (be-four (n / 2 ^ 32) k))
+
 -- The number of eight bytes, by their two words.
 pub int-eight : (s : List ℕ) → length s ≡ 8 → wordAt s 0 * 2 ^ 32 + wordAt s 4 ≡ int s
 unfolding int intFrom
@@ -139,3 +146,10 @@ int-be zero y x = omega (arith, mod-one x)
 int-be (suc n) y x =
     int-append y (be n (x / 256)) (x % 256 ∷ []) ∙ ap (λ (z : ℕ). z * 256 + x % 256) (int-be n y (x / 256))
     ∙ rw (pow-suc 256 n, mod-mul x {m = 256 ^ n} {c = 256} (one-le-pow n 256 (zero-lt-suc 255)) (zero-lt-suc 255), ← mul-assoc y (256 ^ n) 256) (omega arith)
+
+-- n bytes hold a number modulo 256^n.
+pub be-low : (n x : ℕ) → be n (x % 256 ^ n) ≡ be n x
+unfolding int
+be-low n x =
+    let e : intFrom 0 (be n x) ≡ x % 256 ^ n = omega (arith, int-be n 0 x) in
+    ap₂ be (sym (length-be n x)) (sym e) ∙ be-int (be n x) (bytes-be n x)

@@ -4,7 +4,7 @@ ghost use mathlib.Core.Path.{_≡_};
 ghost use mathlib.Core.List.{_∷_, []};
 ghost use Prim.Native.Nat.{_≤_, _+_};
 ghost use lib.ListN.{length, getD};
-ghost use Rattle.octets.specs.BigEndian.{int};
+ghost use Rattle.octets.specs.BigEndian.{int, be};
 ghost use Rattle.octets.specs.Bytes.{placed};
 ghost use Rattle.octets.specs.Words.{HasBytes, word, wordAt, b0, b1, b2, b3, wordBytes};
 
@@ -55,6 +55,24 @@ pub fn join_eight(bytes: [u8; 8]) -> u64
     let high = join(bytes[0], bytes[1], bytes[2], bytes[3]);
     let low = join(bytes[4], bytes[5], bytes[6], bytes[7]);
     (high as u64) * 4294967296 + (low as u64)
+}
+
+// The eight bytes of a number, the highest first.
+pub fn split_eight(number: u64) -> [u8; 8]
+    ensures { λ r. ⌜ r ≡ be 8 number ⌝ }
+{
+    let high = (number / 4294967296) as u32;
+    let low = (number % 4294967296) as u32;
+    [
+        byte0(high),
+        byte1(high),
+        byte2(high),
+        byte3(high),
+        byte0(low),
+        byte1(low),
+        byte2(low),
+        byte3(low),
+    ]
 }
 
 fn bytes_of(w: u32) -> [u8; 4]

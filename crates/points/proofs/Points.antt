@@ -16,7 +16,7 @@ use Rattle.frame.specs.Rules.{KeySizes, FileLength}
 use Rattle.frame.proofs.Rules.{length-exactly}
 use Rattle.frame.proofs.Exactly.{lengths-exactly, rows-exactly}
 use Rattle.siv_gcm.specs.SivGcm.{sivGcm, codec}
-use Rattle.siv_gcm.proofs.KeySizes.{keys-exactly}
+use Rattle.frame.proofs.KeySizes.{keys-exactly}
 use Rattle.name_spec.specs.Names.{fullLength, storedName}
 use Rattle.name_spec.proofs.Texts.{length-full}
 use Rattle.points.specs.Points.{NoFileLength, CoversOfTwo, TestPoints}

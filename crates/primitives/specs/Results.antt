@@ -8,10 +8,13 @@ use lib.ListN.{length}
 use Rattle.octets.specs.Bytes.{placed}
 use Rattle.aes_spec.specs.Cipher.{aes}
 use Rattle.aes_inverse.specs.InverseCipher.{inverseAes}
+use Rattle.ctr.specs.Ctr.{inc128, ctr}
 use Rattle.gcm.specs.Gcm.{seal, good, plain}
 use Rattle.encoding.specs.Base32 as base32
 use Rattle.encoding.specs.Base64url as base64url
 use Rattle.sha1.specs.Message.{sha1}
+use Rattle.sha256.specs.Message.{sha256}
+use Rattle.hmac.specs.Hmac.{hmacSha256}
 use Rattle.siv.specs.Cmac.{cmac}
 use Rattle.siv.specs.Siv as siv
 use Rattle.siv.specs.Pieces.{pieces}
@@ -54,6 +57,11 @@ gcmOpen key nonce aad sealed d =
     && good (aes 8 key) nonce aad sealed)
     (plain (aes 8 key) nonce sealed) d
 
+-- Counter mode with a counter of 128 bits.
+unfoldable pub ctr128 : List ℕ → List ℕ → List ℕ → List ℕ → End
+ctr128 key first text d =
+    doneIf (eqb (length key) 32 && eqb (length first) 16 && leb (length text) (length d)) (ctr inc128 (aes 8 key) first text) d
+
 unfoldable pub cmac256 : List ℕ → List ℕ → List ℕ → End
 cmac256 key message d = doneIf (eqb (length key) 32 && leb 16 (length d)) (cmac (aes 8 key) message) d
 
@@ -79,6 +87,12 @@ sivOpen mac enc given ad sealed d =
 
 unfoldable pub sha1Digest : List ℕ → List ℕ → End
 sha1Digest message d = doneIf (leb 20 (length d)) (sha1 message) d
+
+unfoldable pub sha256Digest : List ℕ → List ℕ → End
+sha256Digest message d = doneIf (leb 32 (length d)) (sha256 message) d
+
+unfoldable pub hmacSha256Mac : List ℕ → List ℕ → List ℕ → End
+hmacSha256Mac key message d = doneIf (leb 32 (length d)) (hmacSha256 key message) d
 
 unfoldable pub base32Text : List ℕ → List ℕ → End
 base32Text bytes d = doneIf (eqb (length bytes) 20 && leb 32 (length d)) (base32.encode bytes) d

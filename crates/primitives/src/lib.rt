@@ -2,6 +2,7 @@
 // byte of the buffer, which is the last slice; where the buffer is longer than the answer its rest stays as it was.
 pub mod authenticated;
 pub mod cipher;
+pub mod counter;
 pub mod deterministic;
 pub mod hash;
 pub mod text;

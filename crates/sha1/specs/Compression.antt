@@ -2,11 +2,13 @@
 -- A block is a list of 64 bytes, and a hash value a list of five words.
 -- Assumes nothing.
 use Prim.Native.Nat.{ℕ, zero, suc, _+_, _-_, _/_}
-use mathlib.Core.List.{List, [], _∷_, _++_}
+use mathlib.Core.List.{List, [], _∷_}
 use lib.ListN.{getD}
 use lib.Bits.{bitXor}
 use Rattle.octets.specs.Words.{words}
-use Rattle.sha1.specs.Operations.{plus, rotl, ch, parity, maj}
+use Rattle.hashing.specs.Operations.{plus, ch, maj}
+use Rattle.hashing.specs.Schedule.{extended}
+use Rattle.sha1.specs.Operations.{rotl, parity}
 
 -- Of four things the one for a quarter of the 80 steps, 0, 1, 2 or 3. The step t is in the quarter t / 20.
 abbrev pub inQuarter : {A : Type 0} → A → A → A → A → ℕ → A
@@ -27,14 +29,9 @@ stepConstant t = inQuarter 0x5a827999 0x6ed9eba1 0x8f1bbcdc 0xca62c1d6 (t / 20)
 abbrev pub nextWord : List ℕ → ℕ → ℕ
 nextWord w t = rotl 1 (bitXor (bitXor (bitXor (getD w (t - 3) 0) (getD w (t - 8) 0)) (getD w (t - 14) 0)) (getD w (t - 16) 0))
 
--- The first 16 words w of a schedule, and n more.
-unfoldable pub extended : List ℕ → ℕ → List ℕ
-extended w zero = w
-extended w (suc n) = let v = extended w n in v ++ (nextWord v (16 + n) ∷ [])
-
 -- 6.1.2, item 1: the message schedule W_0 to W_79 of the block m. Its first 16 words are the block's (5.2.1).
 unfoldable pub schedule : List ℕ → List ℕ
-schedule m = extended (words 16 m) 64
+schedule m = extended nextWord (words 16 m) 64
 
 -- The working variables a, b, c, d and e.
 pub data Variables : Type 0 where

@@ -1,22 +1,13 @@
 -- What holds of the definitions. `proofs/Laws.antt` proves each under its name.
 -- Assumes nothing.
-use Prim.Native.Nat.{ℕ, _+_, _*_, _%_, _<_}
+use Prim.Native.Nat.{ℕ}
 use mathlib.Core.Path.{_≡_}
 use mathlib.Core.List.{List, _++_}
 use lib.ListN.{length}
 use Rattle.octets.specs.Bytes.{Bytes}
-use Rattle.sha1.specs.Message.{zeros, padded, sha1}
+use Rattle.sha1.specs.Message.{sha1}
 use Rattle.sha1.specs.Running.{Running, Updated, finished}
 use Rattle.sha1.specs.declared.Sha1.{Sha1}
-
--- 5.1.1: after the bit 1 come k zero bits, of which 7 are in the byte 0x80, and k is the least solution of l + 1 + k = 448 modulo 512,
--- where l is the message's length in bits.
-abbrev pub LeastPadding : Type 0
-LeastPadding = (n : ℕ) → ((8 * n + 1 + (7 + 8 * zeros n)) % 512 ≡ 448) × (7 + 8 * zeros n < 512)
-
--- 5.1.1: the padded message is whole blocks.
-abbrev pub WholeBlocks : Type 0
-WholeBlocks = (m : List ℕ) → length (padded m) % 64 ≡ 0
 
 -- The digest has 20 bytes.
 abbrev pub TwentyBytes : Type 0

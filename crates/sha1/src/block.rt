@@ -1,17 +1,18 @@
 // One block: FIPS 180-4, 6.1.2.
-use crate::operations::ch;
-use crate::operations::maj;
 use crate::operations::parity;
 use crate::operations::rotl1;
 use crate::operations::rotl5;
 use crate::operations::rotl30;
-use octets::word::word_at;
+use hashing::operations::ch;
+use hashing::operations::maj;
+use hashing::words::load;
 use std::num::wrapping_add_u32;
 ghost use mathlib.Core.Path.{_≡_};
 ghost use Prim.Native.Nat.{_≤_, _+_};
 ghost use lib.ListN.{length, take, drop};
-ghost use Rattle.octets.specs.Words.{words};
-ghost use Rattle.sha1.specs.Operations.{plus, rotl};
+ghost use Rattle.hashing.specs.Operations.{plus};
+ghost use Rattle.hashing.specs.Schedule.{extended};
+ghost use Rattle.sha1.specs.Operations.{rotl};
 ghost use Rattle.sha1.specs.Operations as op;
 ghost use Rattle.sha1.specs.Compression as spec;
 ghost use Rattle.sha1.specs.Working.{variables, Uses};
@@ -25,22 +26,10 @@ pub struct Working {
     pub e: u32,
 }
 
-// Writes the 16 words of the block at a place of s.
-fn load(s: &[u8], at: usize, w: &mut [u32])
-    requires { ⌜ (at + 64 ≤ length (now s)) × (16 ≤ length (now w)) ⌝ }
-    ensures { λ _. ⌜ take 16 (now (w .exit)) ≡ words 16 (take 64 (drop at (now (s .entry)))) ⌝ }
-{
-    let mut t = 0;
-    while t < 16 {
-        w[t] = word_at(s, at + 4 * t);
-        t += 1;
-    }
-}
-
 // Writes W_16 to W_79 after the first 16 words.
 fn extend(w: &mut [u32])
     requires { ⌜ length (now w) ≡ 80 ⌝ }
-    ensures { λ _. ⌜ now (w .exit) ≡ spec.extended (take 16 (now (w .entry))) 64 ⌝ }
+    ensures { λ _. ⌜ now (w .exit) ≡ extended spec.nextWord (take 16 (now (w .entry))) 64 ⌝ }
 {
     let mut t = 16;
     while t < 80 {

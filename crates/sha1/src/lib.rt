@@ -1,10 +1,10 @@
 // SHA-1 (FIPS 180-4) of a message that comes in parts of any length.
 mod block;
-mod bytes;
 mod operations;
 
 use block::compress;
-use bytes::write_words;
+use hashing::padding::padding_of;
+use hashing::words::write_words;
 use octets::slice::copy_at;
 use std::num::wrapping_add_u64;
 ghost use mathlib.Core.Path.{_≡_};
@@ -12,7 +12,9 @@ ghost use mathlib.Core.List.{[]};
 ghost use Prim.Native.Nat.{_<_, _≤_, _+_, _*_, _%_};
 ghost use lib.ListN.{length};
 ghost use Rattle.octets.specs.Words.{wordBytes};
-ghost use Rattle.sha1.specs.Message.{hashFrom, sha1};
+ghost use Rattle.hashing.specs.Message.{hashFrom};
+ghost use Rattle.sha1.specs.Compression as spec;
+ghost use Rattle.sha1.specs.Message.{sha1};
 ghost use Rattle.sha1.specs.Running.{Running, Updated, finished};
 
 // The hash value of the whole blocks so far, the bytes that wait for the rest of their block, and the number of bytes, modulo 2^64.
@@ -26,7 +28,7 @@ pub struct Sha1 {
 // The hash value after the first n blocks of s, from h on.
 fn hash_blocks(h: [u32; 5], s: &[u8], n: usize) -> [u32; 5]
     requires { ⌜ 64 * n ≤ length (now s) ⌝ }
-    ensures { λ r. ⌜ r ≡ hashFrom h (now (s .entry)) n ⌝ }
+    ensures { λ r. ⌜ r ≡ hashFrom spec.compress h (now (s .entry)) n ⌝ }
 {
     let mut x = h;
     let mut i = 0;
@@ -129,14 +131,10 @@ impl Sha1 {
     pub fn finish(self) -> [u8; 20]
         ensures { λ r. ⌜ r ≡ finished self ⌝ }
     {
-        let length = self.length;
-        let zeros = ((119 - length % 64) % 64) as usize;
-        let bits = length << 3;
-        let mut tail = [0u8; 72];
-        tail[0] = 0x80;
-        let count = [(bits / 4294967296) as u32, (bits % 4294967296) as u32];
-        write_words(&count, &mut tail, 1 + zeros);
-        let last = self.update(&tail[..zeros + 9]);
+        let padding = padding_of(self.length);
+        let n = padding.length;
+        let tail = padding.bytes;
+        let last = self.update(&tail[..n]);
         let words = last.words;
         digest_of(words)
     }

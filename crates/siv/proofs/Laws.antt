@@ -1,19 +1,19 @@
 -- Opening is a partial inverse of sealing, over any block cipher on 16 bytes.
 -- Assumes nothing.
-use Prim.Native.Nat.{ℕ, _+_, _-_, _≤_}
-use mathlib.Core.Path.{_≡_, refl, sym, _∙_, ap, ap₂}
+use Prim.Native.Nat.{ℕ, _+_, _-_}
+use mathlib.Core.Path.{_≡_, sym, _∙_, ap, ap₂}
 use mathlib.Core.Bool.{true}
 use mathlib.Core.List.{List, [], _∷_, _++_}
 use native.Mathlib.Omega.{arith}
-use lib.ListN.{length, take, drop, length-append, length-take, length-drop, take-append-drop}
+use lib.ListN.{length, take, drop, length-append, length-drop, take-append-drop}
 use lib.Seq.{take-at, drop-at}
 use Rattle.octets.specs.Bytes.{Bytes, same}
 use Rattle.octets.proofs.Bytes.{below-append, below-drop}
 use Rattle.octets.proofs.Equality.{same-self, same-eq}
-use Rattle.ctr.specs.Ctr.{BlockCipher, ctr}
+use Rattle.ctr.specs.Ctr.{inc128, BlockCipher}
 use Rattle.ctr.proofs.Texts.{length-ctr, ctr-twice, ctr-bytes}
 use Rattle.siv.specs.Cmac.{cmacFrom, cmac}
-use Rattle.siv.specs.Siv.{s2vLast, s2vFrom, s2v, inc, counterOf, crypt, plain, seal, good}
+use Rattle.siv.specs.Siv.{s2vLast, s2vFrom, s2v, counterOf, crypt, plain, seal, good}
 use Rattle.siv.specs.Statements.{SealedOpens, OpenedWasSealed, Lengths, KeepsBytes}
 
 module _ (mac : List ℕ → List ℕ) (lm : BlockCipher mac) where
@@ -34,11 +34,11 @@ module _ (mac : List ℕ → List ℕ) (lm : BlockCipher mac) where
 module _ (enc : List ℕ → List ℕ) (le : BlockCipher enc) where
   pub length-crypt : (v x : List ℕ) → length (crypt enc v x) ≡ length x
   unfolding crypt
-  length-crypt v x = length-ctr inc enc le (counterOf v) x
+  length-crypt v x = length-ctr inc128 enc le (counterOf v) x
 
   crypt-twice : (v x : List ℕ) → crypt enc v (crypt enc v x) ≡ x
   unfolding crypt
-  crypt-twice v x = ctr-twice inc enc le (counterOf v) x
+  crypt-twice v x = ctr-twice inc128 enc le (counterOf v) x
 
   pub length-plain : (z : List ℕ) → length (plain enc z) ≡ length z - 16
   unfolding plain
@@ -107,6 +107,6 @@ module _ (mac : List ℕ → List ℕ) (bs : (s : List ℕ) → Bytes (mac s)) w
 pub keeps-bytes : KeepsBytes
 unfolding crypt seal plain
 keeps-bytes mac enc ms es ads = (
-  λ p h. below-append (s2v-bytes mac ms (ads ++ (p ∷ []))) (ctr-bytes inc enc es _ h),
-  λ z h. ctr-bytes inc enc es _ (below-drop 16 h),
+  λ p h. below-append (s2v-bytes mac ms (ads ++ (p ∷ []))) (ctr-bytes inc128 enc es _ h),
+  λ z h. ctr-bytes inc128 enc es _ (below-drop 16 h),
 )

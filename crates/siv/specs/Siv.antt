@@ -2,15 +2,15 @@
 -- are on 16 bytes. To add is exclusive or. The RFC allows at most 126 strings of associated data (2.6): beyond that nothing
 -- here is the standard's.
 -- Assumes nothing.
-use Prim.Native.Nat.{ℕ, _+_, _-_, _%_, _^_}
+use Prim.Native.Nat.{ℕ, _-_, _%_}
 use mathlib.Core.List.{List, [], _∷_, _++_}
 use mathlib.Core.Bool.{Bool, cond}
 use lib.ListN.{take, drop, getD, length}
 use lib.Dec.{leb}
 use Rattle.octets.specs.Bytes.{same}
 use Rattle.octets.specs.Xors.{xors}
-use Rattle.octets.specs.BigEndian.{int, be}
-use Rattle.ctr.specs.Ctr.{ctr}
+use Rattle.octets.specs.BigEndian.{be}
+use Rattle.ctr.specs.Ctr.{inc128, ctr}
 use Rattle.siv.specs.Cmac.{dbl, pad, cmac}
 
 -- 2.1: b, which is no longer than a, is added to the end of a.
@@ -32,18 +32,14 @@ module _ (mac : List ℕ → List ℕ) where
   s2v [] = cmac mac (be 16 1)
   s2v (s ∷ r) = s2vFrom (cmac mac (be 16 0)) s r
 
--- 2.5: the next counter block, x plus 1 modulo 2^128.
-unfoldable pub inc : List ℕ → List ℕ
-inc x = be 16 ((int x + 1) % 2 ^ 128)
-
 -- 2.6 and 2.7: the first counter block Q, the synthetic IV with the top bits of its bytes 8 and 12, counted from 0, cleared.
 unfoldable pub counterOf : List ℕ → List ℕ
 counterOf v = take 8 v ++ (getD v 8 0 % 128 ∷ []) ++ take 3 (drop 9 v) ++ (getD v 12 0 % 128 ∷ []) ++ drop 13 v
 
 module _ (enc : List ℕ → List ℕ) where
-  -- 2.6 and 2.7: the text to and from its ciphertext, under the synthetic IV v.
+  -- 2.5 to 2.7: the text to and from its ciphertext, under the synthetic IV v.
   unfoldable pub crypt : List ℕ → List ℕ → List ℕ
-  crypt v x = ctr inc enc (counterOf v) x
+  crypt v x = ctr inc128 enc (counterOf v) x
 
   -- 2.7: a sealed text is the synthetic IV and then the ciphertext; this is its cleartext, which the RFC gives only if `good` holds.
   unfoldable pub plain : List ℕ → List ℕ

@@ -5,10 +5,10 @@ use aes::block::Block;
 use aes::block::block_at;
 use aes::block::equal;
 use aes::block::to_bytes;
-use ctr::crypt;
+use ctr::crypt128;
 use octets::slice::copy_at;
 ghost use mathlib.Core.Path.{_≡_};
-ghost use Prim.Native.Nat.{_<_, _≤_, _+_, _-_, _^_};
+ghost use Prim.Native.Nat.{_≤_, _+_};
 ghost use lib.ListN.{length};
 ghost use Rattle.aes_spec.specs.RoundTable.{roundTable};
 ghost use Rattle.aes_spec.specs.Cipher.{cipher};
@@ -19,7 +19,6 @@ ghost use Rattle.siv.specs.Pieces.{pieces};
 // The first counter block of a synthetic IV.
 fn counter_of(v: Block) -> Block
     ensures { λ r. ⌜ state r ≡ spec.counterOf (state v) ⌝ }
-    ensures { λ r. ⌜ (r .a < 2 ^ 32) × (r .b < 2 ^ 32) × (r .c < 2 ^ 31) × (r .d < 2 ^ 31) ⌝ }
 {
     Block {
         a: v.a,
@@ -32,10 +31,10 @@ fn counter_of(v: Block) -> Block
 // Writes to out the text that src is enciphered or deciphered to, under the synthetic IV v.
 fn crypt_under(t: &[u32; 256], enc: &[u32], v: Block, src: &[u8], out: &mut [u8])
     requires { ⌜ now t ≡ roundTable ⌝ }
-    requires { ⌜ (60 ≤ length (now enc)) × (length (now out) ≡ length (now src)) × (length (now src) ≤ 2 ^ 35) ⌝ }
+    requires { ⌜ (60 ≤ length (now enc)) × (length (now out) ≡ length (now src)) ⌝ }
     ensures { λ _. ⌜ now (out .exit) ≡ spec.crypt (cipher 14 (now (enc .entry))) (state v) (now (src .entry)) ⌝ }
 {
-    crypt(t, enc, counter_of(v), src, 0, out);
+    crypt128(t, enc, counter_of(v), src, 0, out);
 }
 
 // Writes the sealed cleartext to out, which has just its length.
@@ -50,7 +49,7 @@ pub fn seal(
 )
     requires { ⌜ now t ≡ roundTable ⌝ }
     requires { ⌜ (60 ≤ length (now mac)) × (60 ≤ length (now enc)) ⌝ }
-    requires { ⌜ (length (now out) ≡ length (now cleartext) + 16) × (length (now cleartext) ≤ 2 ^ 35) ⌝ }
+    requires { ⌜ length (now out) ≡ length (now cleartext) + 16 ⌝ }
     ensures { λ _. ⌜ now (out .exit) ≡ spec.seal (cipher 14 (now (mac .entry))) (cipher 14 (now (enc .entry))) (pieces given (now (ad .entry))) (now (cleartext .entry)) ⌝ }
 {
     let v = s2v(t, mac, given, ad, cleartext);
@@ -71,7 +70,7 @@ pub fn open_into(
 ) -> bool
     requires { ⌜ now t ≡ roundTable ⌝ }
     requires { ⌜ (60 ≤ length (now mac)) × (60 ≤ length (now enc)) ⌝ }
-    requires { ⌜ (length (now sealed) ≡ length (now out) + 16) × (length (now out) ≤ 2 ^ 35) ⌝ }
+    requires { ⌜ length (now sealed) ≡ length (now out) + 16 ⌝ }
     ensures { λ r. ⌜ r ≡ spec.good (cipher 14 (now (mac .entry))) (cipher 14 (now (enc .entry))) (pieces given (now (ad .entry))) (now (sealed .entry)) ⌝ }
     ensures { λ _. ⌜ now (out .exit) ≡ spec.plain (cipher 14 (now (enc .entry))) (now (sealed .entry)) ⌝ }
 {

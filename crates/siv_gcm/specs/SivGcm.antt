@@ -3,15 +3,14 @@
 -- Assumes nothing.
 use Prim.Native.Nat.{ℕ}
 use mathlib.Core.Path.{_≡_}
-use mathlib.Core.Bool.{Bool, true, _&&_}
+use mathlib.Core.Bool.{Bool, true}
 use mathlib.Core.List.{List, [], _++_}
-use lib.ListN.{length, take, drop}
-use lib.Dec.{eqb}
+use lib.ListN.{take, drop}
 use Rattle.octets.specs.BigEndian.{be}
 use Rattle.aes_spec.specs.Cipher.{aes}
 use Rattle.gcm.specs.Gcm as gcm
 use Rattle.frame.specs.Layout.{Sizes}
-use Rattle.frame.specs.Frame.{Head, Codec, keySize, reservedSize, payloadOf}
+use Rattle.frame.specs.Frame.{Head, Codec, reservedSize, payloadOf, masterKeysRight}
 
 -- A header has 68 bytes, a nonce 12, and a chunk adds a nonce and a tag of 16 bytes to its cleartext.
 abbrev pub sivGcm : Sizes
@@ -53,14 +52,11 @@ module _ (enc : List ℕ) where
 -- Under the encryption and the MAC master key. Files go by the first alone, yet both must have their size. Chunks are under AES-256 with
 -- the content key.
 module _ (enc mac : List ℕ) where
-  unfoldable pub masterKeysRight : Bool
-  masterKeysRight = eqb (length enc) keySize && eqb (length mac) keySize
-
   abbrev pub codec : Codec
   codec =
       record {
         sizes = sivGcm;
-        keysRight = masterKeysRight;
+        keysRight = masterKeysRight enc mac;
         headerOf = headerOf enc;
         chunkOf = λ h i n p. sealed (aes 8 (h .key)) (chunkData (h .nonce) i) n p;
         headOf = headOf enc;

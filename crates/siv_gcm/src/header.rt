@@ -2,8 +2,8 @@
 use crate::stored::good;
 use crate::stored::open_part;
 use crate::stored::seal;
+use frame::own_payload;
 use gcm::key::prepare;
-use octets::slice::copy_at;
 ghost use mathlib.Core.Path.{_≡_};
 ghost use mathlib.Core.Bool.{cond};
 ghost use lib.ListN.{length};
@@ -20,9 +20,7 @@ pub fn seal_header(t: &[u32; 256], enc: &[u8], nonce: &[u8], key: &[u8], out: &m
     let mut w = [0u32; 60];
     let mut m = [0u64; 32];
     prepare(t, enc, &mut w, &mut m);
-    let mut payload = [255u8; 40];
-    copy_at(key, &mut payload, 8);
-    seal(t, &w, &m, nonce, b"", &payload, out);
+    seal(t, &w, &m, nonce, b"", &own_payload(key), out);
 }
 
 // Writes the payload of a good header: its eight reserved bytes and its content key. Of a header whose tag is wrong nothing is written.

@@ -18,10 +18,13 @@ use primitives::authenticated::primitives_gcm_open;
 use primitives::authenticated::primitives_gcm_seal;
 use primitives::cipher::primitives_aes256;
 use primitives::cipher::primitives_aes256_decrypt;
+use primitives::counter::primitives_ctr128;
 use primitives::deterministic::primitives_cmac256;
 use primitives::deterministic::primitives_siv_open;
 use primitives::deterministic::primitives_siv_seal;
+use primitives::hash::primitives_hmac_sha256;
 use primitives::hash::primitives_sha1;
+use primitives::hash::primitives_sha256;
 use primitives::text::primitives_base32;
 use primitives::text::primitives_base64url_encode;
 use primitives::text::primitives_proper_text;
@@ -71,6 +74,18 @@ fn gcm() {
     print(&opened);
 }
 
+// SP 800-38A, F.5.5.
+fn ctr128() {
+    let key =
+        b"\x60\x3d\xeb\x10\x15\xca\x71\xbe\x2b\x73\xae\xf0\x85\x7d\x77\x81\x1f\x35\x2c\x07\x3b\x61\x08\xd7\x2d\x98\x10\xa3\x09\x14\xdf\xf4";
+    let first_counter = b"\xf0\xf1\xf2\xf3\xf4\xf5\xf6\xf7\xf8\xf9\xfa\xfb\xfc\xfd\xfe\xff";
+    let text =
+        b"\x6b\xc1\xbe\xe2\x2e\x40\x9f\x96\xe9\x3d\x7e\x11\x73\x93\x17\x2a\xae\x2d\x8a\x57\x1e\x03\xac\x9c\x9e\xb7\x6f\xac\x45\xaf\x8e\x51\x30\xc8\x1c\x46\xa3\x5c\xe4\x11\xe5\xfb\xc1\x19\x1a\x0a\x52\xef\xf6\x9f\x24\x45\xdf\x4f\x9b\x17\xad\x2b\x41\x7b\xe6\x6c\x37\x10";
+    let mut out = [0u8; 64];
+    primitives_ctr128(key, first_counter, text, &mut out);
+    print(&out);
+}
+
 // SP 800-38B, the example of 40 bytes for a key of 256 bits.
 fn cmac() {
     let key =
@@ -103,6 +118,20 @@ fn siv() {
 fn sha1() {
     let mut out = [0u8; 20];
     primitives_sha1(b"abc", &mut out);
+    print(&out);
+}
+
+// FIPS 180-4, the example "abc".
+fn sha256() {
+    let mut out = [0u8; 32];
+    primitives_sha256(b"abc", &mut out);
+    print(&out);
+}
+
+// RFC 4231, test case 2.
+fn hmac() {
+    let mut out = [0u8; 32];
+    primitives_hmac_sha256(b"Jefe", b"what do ya want for nothing?", &mut out);
     print(&out);
 }
 
@@ -316,9 +345,12 @@ fn distinct() {
 fn main() {
     aes256();
     gcm();
+    ctr128();
     cmac();
     siv();
     sha1();
+    sha256();
+    hmac();
     text();
     utf8();
     key_wrap();

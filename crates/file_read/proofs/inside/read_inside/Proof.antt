@@ -1,61 +1,77 @@
 -- `read_inside`: the header is opened, and then the range is read under what it says.
 -- Assumes nothing.
-use borrow.Author.Needs.{needs}
-use Rattle.file_read.proofs.inside.read_inside.Statement.{statement}
-use Rattle.file_read.proofs.inside.read_inside.Tie as tie
-use Prim.Native.Nat.{ℕ, _-_}
-use mathlib.Core.Path.{_≡_, sym, ap, _∙_}
-use mathlib.Core.Bool.{Bool, true, false, cond}
-use mathlib.Core.List.{List, [], _∷_}
+use Prim.Native.Nat.{ℕ, _-_, _≤_}
+use mathlib.Core.Path.{_≡_, sym, ap, ap₂, _∙_}
+use mathlib.Core.Bool.{Bool, true, cond}
+use mathlib.Core.List.{List}
 use borrow.Author.Tests.{not-true, not-false}
 use native.Mathlib.Omega.{arith}
 use lib.ListN.{length, take, replicate}
 use lib.Seq.{length-take-le}
-use Rattle.octets.specs.Rows.{done, refused}
-use Rattle.frame.specs.Layout.{fileLength, rightLength, headerAt}
+use Rattle.frame.specs.Layout.{Sizes, fileLength, rightLength, headerAt}
 use Rattle.frame.specs.Frame.{payloadOf}
 use Rattle.frame.proofs.Lengths.{file-clear}
-use Rattle.frame.proofs.Success.{read-ends}
-use Rattle.frame.proofs.Answers.{row-9}
-use Rattle.siv_gcm.specs.SivGcm.{sivGcm, headOf, headerGood, codec}
-use Rattle.siv_gcm.proofs.Payloads.{key-part}
+use Rattle.vault.specs.declared.record.Combo.{Combo}
+use Rattle.vault.specs.Vault.{sizesOf, codecWith}
+use Rattle.vault.proofs.Combos.{sized-exactly}
+use Rattle.vault.proofs.Payloads.{key-part}
 use Rattle.file_read.specs.Under.{readUnder}
-use Rattle.file_read.proofs.Under.{read-under}
+use Rattle.file_read.proofs.Under.{refused-9, read-under}
+use borrow.Author.Needs.{needs}
+use Rattle.file_read.proofs.inside.read_inside.Statement.{statement}
+use Rattle.file_read.proofs.inside.read_inside.Tie as tie
 
 -- the file holds a header
-long : (f : List ℕ) → rightLength sivGcm (length f) ≡ true → length (take 68 f) ≡ 68
-long f r = let e = file-clear sivGcm (length f) r in length-take-le 68 f (omega (arith, e))
+held : (k : Combo) (l : ℕ) → rightLength (sizesOf k) l ≡ true → sizesOf k .header ≤ l
+held k l r = omega (arith, file-clear (sizesOf k) l r)
+
+header-size : (c : tie.After-sizes-of) → c .sizes-of .result .header ≡ sizesOf (c .before .before .before .before .before .before .args .combo) .header
+header-size c = ap (λ (z : Sizes). z .header) (c .sizes-of .ensures)
+
+header-long : (c : tie.After-sizes-of) →
+    let i = c .before .before .before .before .before .before in
+    length (take (c .sizes-of .result .header) (i .args .file .now)) ≡ sizesOf (i .args .combo) .header
+header-long c =
+    let i = c .before .before .before .before .before .before in
+    let h = held (i .args .combo) (length (i .args .file .now)) (i .pre .2) in
+    length-take-le (c .sizes-of .result .header) (i .args .file .now) (omega (arith, header-size c, h)) ∙ header-size c
 
 -- what the test of the header says
 tested : (c : tie.After-open-header) →
-    let x = c .before .before .before .before .before .before .before .before .args in
-    c .open-header .result ≡ headerGood (x .enc .now) (headerAt sivGcm (x .file .now))
+    let x = c .before .before .before .before .before .before .before .before .before .before .args in
+    c .open-header .result ≡ codecWith (x .combo) (x .enc .now) (x .mac .now) .headerGood (headerAt (sizesOf (x .combo)) (x .file .now))
 unfolding headerAt
-tested c = c .open-header .ensures .0
+tested c =
+    let s = c .before .before .before .before in
+    let x = s .before .before .before .before .before .before .args in
+    c .open-header .ensures .0 ∙ ap (λ (n : ℕ). codecWith (x .combo) (x .enc .now) (x .mac .now) .headerGood (take n (x .file .now))) (header-size s)
 
 table-requires : tie.Need-table-requires
 table-requires c κs = search needs
 
+sizes-of-requires : tie.Need-sizes-of-requires
+sizes-of-requires c κs = search needs
+
 slice-aggregate-open-header : tie.Need-slice-aggregate-open-header
-slice-aggregate-open-header c = let i = c .before .before .before .before .before .before in sym (long (i .args .file .now) (i .pre .1))
+slice-aggregate-open-header c = let s = c .before .before in sym (header-long s ∙ sym (header-size s))
 
 slice-aggregate-open-header-2 : tie.Need-slice-aggregate-open-header-2
 slice-aggregate-open-header-2 c = search needs
 
 open-header-requires : tie.Need-open-header-requires
 open-header-requires c κs =
-    let i = c .before .before .before .before .before .before .before in
-    (c .before .before .before .table .ensures, (i .pre .0, long (i .args .file .now) (i .pre .1), search needs))
+    let s = c .before .before .before in
+    let i = s .before .before .before .before .before .before in
+    (s .before .table .ensures, (i .pre .0, header-long s, search needs))
 
 returns : tie.Need-returns
-returns c mac k =
-    let i = c .before .before .before .before .before .before .before .before .before .before in
+returns c =
+    let o = c .before .before in
+    let i = o .before .before .before .before .before .before .before .before .before .before in
     let x = i .args in
-    let C = codec (x .enc .now) mac in
-    let h : headerGood (x .enc .now) (headerAt sivGcm (x .file .now)) ≡ false = sym (tested (c .before .before)) ∙ not-true (c .before .before .open-header .result) (c .if1 .taken) in
-    sym
-    (read-ends C (x .file .now) (x .from) (x .count) (x .out .now) (refused 9)
-    (row-9 C (x .file .now) (x .from) (x .count) (length (x .out .now)) (done (x .count ∷ [])) k (i .pre .1) (omega (arith, i .pre .2, i .pre .3)) (i .pre .4) h))
+    let k = sized-exactly (x .combo) (x .enc .now) (x .mac .now) .1 (i .pre .0, i .pre .1) in
+    let h = sym (tested o) ∙ not-true (o .open-header .result) (c .if1 .taken) in
+    refused-9 (x .enc .now) (x .mac .now) (x .file .now) (x .from) (x .count) (x .out .now) (x .combo) k (i .pre .2) (omega (arith, i .pre .3, i .pre .4)) (i .pre .5) h
 
 sub-read-under : tie.Need-sub-read-under
 sub-read-under c = search needs
@@ -68,34 +84,42 @@ part-read-under-end c = search needs
 
 read-under-requires : tie.Need-read-under-requires
 read-under-requires c κs =
-    let i = c .before .before .before .before .before .before .before .before .before .before .before .before .before .before in
+    let t = c .before .before .before .before .before .before .before .before .before .before .before in
+    let i = t .before .before .before .before .before in
     let x = i .args in
-    (c .before .before .before .before .before .before .before .before .before .before .table .ensures, (search needs, file-clear sivGcm (length (x .file .now)) (i .pre .1) ∙ ap (fileLength sivGcm) (sym (i .pre .2)), i .pre .3, i .pre .4))
+    let z = sizesOf (x .combo) in
+    (t .table .ensures, (search needs, file-clear z (length (x .file .now)) (i .pre .2) ∙ ap (fileLength z) (sym (i .pre .3)), i .pre .4, i .pre .5))
 
 same-length : tie.Need-same-length
 same-length c = search needs
 
 returns-2 : tie.Need-returns-2
 unfolding headerAt
-returns-2 c mac k =
+returns-2 c =
     let o = c .before .before .before .before .before .before .before .before .before in
-    let i = o .before .before .before .before .before .before .before .before in
+    let s = o .before .before .before .before in
+    let i = s .before .before .before .before .before .before in
     let x = i .args in
     let f = x .file .now in
+    let C = codecWith (x .combo) (x .enc .now) (x .mac .now) in
     let t : o .open-header .result ≡ true = not-false (o .open-header .result) (c .before .before .before .before .before .before .before .if1 .left) in
-    let h : headerGood (x .enc .now) (headerAt sivGcm f) ≡ true = sym (tested o) ∙ t in
-    let p = o .open-header .last .1 .1 .1 .0 in
-    let said : p ≡ payloadOf (headOf (x .enc .now) (take 68 f)) = o .open-header .ensures .1 ∙ ap (λ (b : Bool). cond b (payloadOf (headOf (x .enc .now) (take 68 f))) (replicate 40 0)) t in
-    let n : length p ≡ 40 = search needs in
+    let h = sym (tested o) ∙ t in
+    let k = sized-exactly (x .combo) (x .enc .now) (x .mac .now) .1 (i .pre .0, i .pre .1) in
+    let b = take (sizesOf (x .combo) .header) f in
+    let p = o .open-header .last .1 .1 .1 .1 .1 .0 in
+    let said : p ≡ payloadOf (C .headOf b) =
+    o .open-header .ensures .1 ∙ ap₂ (λ (r : Bool) (n : ℕ). cond r (payloadOf (C .headOf (take n f))) (replicate 40 0)) t (header-size s) in
+    let n : length p ≡ 40 = o .open-header .kept .1 .1 .1 .1 .1 .0 in
     c .before .before .read-under .ensures
-    ∙ ap (λ (key : List ℕ). readUnder (take 12 f) key f (x .from) (x .count) (x .out .now)) (key-part (x .enc .now) (take 68 f) p said n)
-    ∙ sym (read-under (x .enc .now) mac f (x .from) (x .count) (x .out .now) k (i .pre .1) (omega (arith, i .pre .2, i .pre .3)) (i .pre .4) h)
+    ∙ ap (λ (key : List ℕ). readUnder (x .combo) (x .mac .now) (take (sizesOf (x .combo) .nonce) f) key f (x .from) (x .count) (x .out .now)) (key-part (x .enc .now) (x .mac .now) b p (x .combo) said n)
+    ∙ sym (read-under (x .enc .now) (x .mac .now) f (x .from) (x .count) (x .out .now) (x .combo) k (i .pre .2) (omega (arith, i .pre .3, i .pre .4)) (i .pre .5) h)
 
 pub read-inside-spec : {M : Type 1} → statement M
 read-inside-spec =
     tie.close
     (tie.spec
     table-requires
+    sizes-of-requires
     slice-aggregate-open-header
     slice-aggregate-open-header-2
     open-header-requires

@@ -10,7 +10,7 @@ use Rattle.aes_spec.specs.Cipher.{aes}
 use Rattle.aes.proofs.Ciphers.{under-key, length-aes}
 use Rattle.siv.specs.Siv as spec
 use Rattle.siv.proofs.Laws.{length-plain}
-use Rattle.siv_gcm.proofs.KeySizes.{master-sizes}
+use Rattle.frame.proofs.KeySizes.{master-sizes}
 use Rattle.octets.proofs.Lists.{at-front}
 use borrow.Author.Needs.{needs}
 use Rattle.name_texts.proofs.keyed.open_under.Statement.{statement}
@@ -59,7 +59,7 @@ open-into-requires c κs =
     let k = c .before .before .before .before .before .before .before .before .before .before in
     let p = k .before .before .before .before .before .before .pre .1 in
     let r = room c in
-    (k .table .ensures, ((search needs, search needs), (omega (arith, r, p .0), omega (arith, r, p .1))))
+    (k .table .ensures, ((search needs, search needs), omega (arith, r, p .0)))
 
 same-length : tie.Need-same-length
 same-length c = search needs

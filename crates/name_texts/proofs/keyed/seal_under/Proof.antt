@@ -3,7 +3,6 @@
 use Prim.Native.Nat.{ℕ, _+_}
 use mathlib.Core.Path.{_≡_, sym, _∙_, ap, ap₂}
 use mathlib.Core.List.{List, _++_}
-use native.Mathlib.Omega.{arith}
 use lib.ListN.{length, take, drop}
 use lib.Seq.{length-take-le}
 use Rattle.aes_spec.specs.Cipher.{aes}
@@ -11,7 +10,7 @@ use Rattle.aes.proofs.Ciphers.{under-key, length-aes}
 use Rattle.siv.specs.Siv as spec
 use Rattle.siv.specs.Pieces.{pieces}
 use Rattle.siv.proofs.Laws.{length-seal}
-use Rattle.siv_gcm.proofs.KeySizes.{master-sizes}
+use Rattle.frame.proofs.KeySizes.{master-sizes}
 use Rattle.octets.proofs.Lists.{at-front}
 use borrow.Author.Needs.{needs}
 use Rattle.name_texts.proofs.keyed.seal_under.Statement.{statement}
@@ -55,8 +54,7 @@ slice-aggregate-seal-3 c = sym (room c)
 seal-requires : tie.Need-seal-requires
 seal-requires c κs =
     let k = c .before .before .before .before .before .before .before .before .before .before in
-    let p = k .before .before .before .before .before .before .pre .1 in
-    (k .table .ensures, ((search needs, search needs), (room c, omega (arith, p .0))))
+    (k .table .ensures, ((search needs, search needs), room c))
 
 same-length : tie.Need-same-length
 same-length c = search needs

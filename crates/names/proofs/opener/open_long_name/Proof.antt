@@ -7,7 +7,7 @@ use lib.Dec.{ltb}
 use lib.ListN.{length}
 use borrow.Author.Tests.{not-true, not-false, lt-ltb, le-ltb}
 use Rattle.octets.specs.Bytes.{same}
-use Rattle.siv_gcm.specs.SivGcm.{masterKeysRight}
+use Rattle.frame.specs.Frame.{masterKeysRight}
 use Rattle.name_spec.specs.Names.{idRight, hashName, short, textRight, nameLength}
 use Rattle.name_spec.specs.Calls.{openLongNameRows}
 use Rattle.name_spec.proofs.Ends.{name-ends, long-by-text}

@@ -6,7 +6,7 @@ use native.Mathlib.Omega.{arith}
 use lib.Dec.{ltb}
 use lib.ListN.{length}
 use borrow.Author.Tests.{not-true, not-false, lt-ltb, le-ltb}
-use Rattle.siv_gcm.specs.SivGcm.{masterKeysRight}
+use Rattle.frame.specs.Frame.{masterKeysRight}
 use Rattle.name_spec.specs.Names.{idRight, short, textRight, nameLength}
 use Rattle.name_spec.specs.Calls.{openNameRows}
 use Rattle.name_spec.proofs.Ends.{name-ends, plain-by-text}

@@ -7,7 +7,7 @@ use native.Mathlib.Omega.{arith}
 use lib.ListN.{length}
 use borrow.Author.Tests.{not-false, lt-ltb, le-ltb}
 use Rattle.octets.specs.Rows.{done, ended}
-use Rattle.siv_gcm.specs.SivGcm.{masterKeysRight}
+use Rattle.frame.specs.Frame.{masterKeysRight}
 use Rattle.name_spec.specs.Names.{idRight, path}
 use Rattle.name_spec.specs.Calls.{pathLength, dirPathRows}
 use Rattle.name_spec.proofs.Texts.{length-path}

@@ -9,7 +9,7 @@ use lib.ListN.{length, take}
 use borrow.Author.Tests.{not-false, leb-true, leb-false}
 use Rattle.octets.specs.Bytes.{placed}
 use Rattle.octets.specs.Rows.{done}
-use Rattle.siv_gcm.specs.SivGcm.{masterKeysRight}
+use Rattle.frame.specs.Frame.{masterKeysRight}
 use Rattle.name_spec.specs.Names.{threshold, idRight, nameRight, fullName, hashName, short}
 use Rattle.name_spec.specs.Calls.{hashLength, lacksRoom, nameEnded, writeNameRows}
 use Rattle.name_spec.proofs.Texts.{length-full, length-hash}

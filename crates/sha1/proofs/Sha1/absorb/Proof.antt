@@ -7,7 +7,9 @@ use native.Mathlib.Omega.{arith}
 use lib.ListN.{length, length-drop}
 use Rattle.octets.specs.Bytes.{placed}
 use Rattle.octets.proofs.Lists.{part-rest}
-use Rattle.sha1.proofs.Messages.{absorbed}
+use Rattle.hashing.proofs.Messages.{absorbed}
+use Rattle.sha1.specs.Compression.{compress}
+use Rattle.sha1.specs.Running.{stateOf}
 use borrow.Author.Needs.{needs}
 use Rattle.sha1.proofs.Sha1.absorb.Statement.{statement}
 use Rattle.sha1.proofs.Sha1.absorb.Tie as tie
@@ -47,7 +49,7 @@ returns c =
     let s = x .s .now in
     let long : length (t .waiting) ≡ 64 = search needs in
     let rest = ap (λ (l : List ℕ). placed l 0 (t .waiting)) (part-rest s (length s) (64 * (length s / 64)) refl) in
-    absorbed t _ s long (c .wrapping-add-u64 .ensures) (omega arith) (c .before .before .before .before .before .hash-blocks .ensures) (c .before .before .copy-at .ensures ∙ rest)
+    absorbed compress (stateOf t) _ s long (c .wrapping-add-u64 .ensures) (omega arith) (c .before .before .before .before .before .hash-blocks .ensures) (c .before .before .copy-at .ensures ∙ rest)
 
 pub absorb-spec : {M : Type 1} → statement M
 absorb-spec =

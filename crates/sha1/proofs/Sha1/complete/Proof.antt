@@ -5,8 +5,9 @@ use mathlib.Core.Path.{_≡_, _∙_, ap}
 use mathlib.Core.List.{List}
 use native.Mathlib.Omega.{arith}
 use lib.ListN.{length, take}
+use Rattle.hashing.proofs.Messages.{completed}
 use Rattle.sha1.specs.Compression.{compress}
-use Rattle.sha1.proofs.Messages.{completed}
+use Rattle.sha1.specs.Running.{stateOf}
 use borrow.Author.Needs.{needs}
 use Rattle.sha1.proofs.Sha1.complete.Statement.{statement}
 use Rattle.sha1.proofs.Sha1.complete.Tie as tie
@@ -35,7 +36,7 @@ returns c =
     let s = x .s .now in
     let long : length (t .waiting) ≡ 64 = search needs in
     let block = ap (λ (l : List ℕ). compress (t .words) (take 64 l)) (c .before .before .before .before .copy-at .ensures) in
-    completed t _ s long (c .wrapping-add-u64 .ensures) (omega arith) (c .before .compress .ensures ∙ block)
+    completed compress (stateOf t) _ s long (c .wrapping-add-u64 .ensures) (omega arith) (c .before .compress .ensures ∙ block)
 
 pub complete-spec : {M : Type 1} → statement M
 complete-spec =

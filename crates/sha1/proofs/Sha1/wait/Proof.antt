@@ -3,7 +3,9 @@
 use mathlib.Core.Path.{_≡_, refl}
 use native.Mathlib.Omega.{arith}
 use lib.ListN.{length}
-use Rattle.sha1.proofs.Messages.{waited}
+use Rattle.hashing.proofs.Messages.{waited}
+use Rattle.sha1.specs.Compression.{compress}
+use Rattle.sha1.specs.Running.{stateOf}
 use borrow.Author.Needs.{needs}
 use Rattle.sha1.proofs.Sha1.wait.Statement.{statement}
 use Rattle.sha1.proofs.Sha1.wait.Tie as tie
@@ -23,7 +25,7 @@ returns : tie.Need-returns
 returns c =
     let x = c .before .before .before .before .before .before .before .args in
     let long : length (x .self .waiting) ≡ 64 = search needs in
-    waited (x .self) _ (x .s .now) long (c .wrapping-add-u64 .ensures) (omega arith) refl (c .before .before .copy-at .ensures)
+    waited compress (stateOf (x .self)) _ (x .s .now) long (c .wrapping-add-u64 .ensures) (omega arith) refl (c .before .before .copy-at .ensures)
 
 pub wait-spec : {M : Type 1} → statement M
 wait-spec =

@@ -8,7 +8,7 @@ use Rattle.siv.proofs.seal.counter_of.Tie as tie
 returns : tie.Need-returns
 returns c =
     let v = c .before .before .args .v in
-    (counter-is (v .a) (v .b) (v .c) (v .d) (omega arith) (omega arith), (omega arith, omega arith, omega arith, omega arith))
+    counter-is (v .a) (v .b) (v .c) (v .d) (omega arith) (omega arith)
 
 pub counter-of-spec : {M : Type 1} → statement M
 counter-of-spec = tie.close (tie.spec returns)

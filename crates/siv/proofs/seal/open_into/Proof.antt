@@ -1,10 +1,10 @@
 -- `open_into`: the cleartext, and the comparison of its synthetic IV with the stored one.
 -- Assumes nothing.
-use Prim.Native.Nat.{ℕ, _+_, _-_, _^_, _≤_}
-use mathlib.Core.Path.{_≡_, refl, sym, _∙_, ap, ap₂}
+use Prim.Native.Nat.{ℕ}
+use mathlib.Core.Path.{_≡_, refl, _∙_, ap, ap₂}
 use mathlib.Core.List.{List, _++_, [], _∷_}
 use borrow.Author.Needs.{needs}
-use lib.ListN.{length, take, drop}
+use lib.ListN.{length}
 use Rattle.octets.specs.Bytes.{same}
 use Rattle.octets.proofs.Lists.{part-rest}
 use Rattle.aes_spec.specs.Cipher.{cipher}

@@ -8,7 +8,6 @@ use lib.ListN.{length}
 use Rattle.octets.specs.Words.{wordBytes}
 use Rattle.octets.proofs.Lists.{placed-rest}
 use Rattle.aes_spec.specs.Cipher.{cipher}
-use Rattle.aes.specs.Blocks.{state}
 use Rattle.siv.specs.Siv as spec
 use Rattle.siv.proofs.seal.seal.Statement.{statement}
 use Rattle.siv.proofs.seal.seal.Tie as tie

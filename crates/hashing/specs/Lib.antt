@@ -1,0 +1,5 @@
+pub mod Operations
+pub mod Schedule
+pub mod Message
+pub mod Running
+pub mod Statements

@@ -1,0 +1,13 @@
+-- `big_sigma0`: the standard's form.
+-- Assumes nothing.
+use mathlib.Core.Path.{refl}
+use Rattle.sha256.specs.Operations.{rotr, Σ0}
+use Rattle.sha256.proofs.operations.big_sigma0.Statement.{statement}
+use Rattle.sha256.proofs.operations.big_sigma0.Tie as tie
+
+returns : tie.Need-returns
+unfolding rotr Σ0
+returns c = refl
+
+pub big-sigma0-spec : {M : Type 1} → statement M
+big-sigma0-spec = tie.close (tie.spec returns)

@@ -1,0 +1,2 @@
+pub mod SivCtrmac
+pub mod Statements

@@ -1,0 +1,5 @@
+pub mod Combos
+pub mod Quotients
+pub mod Payloads
+pub mod Making
+pub mod Demands
