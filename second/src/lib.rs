@@ -1,6 +1,7 @@
-//! Cryptomator vaults (format 8, SIV_GCM) in plain Rust, and below them AES
-//! with the modes GCM, CMAC and SIV and key wrap, SHA-1 and text encodings,
-//! written from the standards that each module names.
+//! Cryptomator vaults (format 8, SIV_GCM and SIV_CTRMAC) in plain Rust, and
+//! below them AES with the modes CTR, GCM, CMAC and SIV and key wrap, SHA-1,
+//! SHA-256 with HMAC and text encodings, written from the standards that each
+//! module names.
 //!
 //! AES and GHASH work by table lookups at places that depend on the key and
 //! the data, so the time they take can tell about them to a program that
@@ -13,11 +14,15 @@ pub mod base32;
 pub mod base64url;
 pub mod cmac;
 pub mod ctr;
+pub mod ctr_hmac;
 pub mod gcm;
 pub mod ghash;
 pub mod hex;
+pub mod hmac;
 pub mod key_wrap;
+mod sha;
 pub mod sha1;
+pub mod sha256;
 pub mod siv;
 pub mod utf8;
 pub mod vault;

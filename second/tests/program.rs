@@ -1,7 +1,7 @@
 //! Runs the check program `vault_check` of the repository on inputs whose line
 //! is known, and compares all that it writes.
 
-use second::vault::write_file;
+use second::vault::{Combo, Vault};
 use std::io::Write;
 use std::path::{Path, PathBuf};
 use std::process::{Command, Stdio};
@@ -49,7 +49,8 @@ fn longest() -> Vec<u8> {
     let mut input = [enc, mac].concat();
     input.resize(MOST, 0);
     let file = &mut input[64..];
-    let length = write_file(&enc, &mac, &[4; 12], &[5; 32], &nonces, &cleartext, file);
+    let vault = Vault::new(&enc, &mac, Combo::SivGcm).expect("two keys");
+    let length = vault.write_file(&[4; 12], &[5; 32], &nonces, &cleartext, file);
     assert_eq!(length, Ok(MOST - 64));
     input
 }

@@ -10,7 +10,7 @@ use common::primitives::{self, DONE, REFUSED};
 use second::aes::{Aes128, Aes256};
 use second::cmac::{self, Cmac};
 use second::siv::{self, Siv};
-use second::{base32, base64url, gcm, key_wrap, sha1, utf8};
+use second::{base32, base64url, ctr, gcm, hmac, key_wrap, sha1, sha256, utf8};
 
 /// What is in `out` before a call.
 const OLD: u8 = 0xa5;
@@ -204,6 +204,25 @@ fn siv256() {
     }
 }
 
+#[test]
+fn ctr256() {
+    let cases = cases(include_str!("../vectors/ctr256.txt"));
+    assert_eq!(cases.len(), 1);
+    for [key, counter, plaintext, ciphertext] in cases {
+        let (key, counter) = (array(key), array(counter));
+        let (plaintext, ciphertext) = (bytes(plaintext), bytes(ciphertext));
+        for (text, answer) in [(&plaintext, &ciphertext), (&ciphertext, &plaintext)] {
+            let mut data = text.clone();
+            ctr::apply(&Aes256::new(&key), u128::from_be_bytes(counter), &mut data);
+            assert_eq!(data, *answer);
+
+            let mut out = vec![OLD; text.len()];
+            assert_eq!(primitives::ctr128(&key, &counter, text, &mut out), DONE);
+            assert_eq!(out, *answer);
+        }
+    }
+}
+
 fn check_sha1(message: &[u8], digest: [u8; 20]) {
     assert_eq!(sha1::digest(message), digest);
     let mut out = [OLD; 20];
@@ -225,6 +244,65 @@ fn sha1_messages() {
 fn sha1_long() {
     let digest = array("34aa973cd4c4daa4f61eeb2bdbad27316534016f");
     check_sha1(&[b'a'; 1_000_000], digest);
+}
+
+fn check_sha256(message: &[u8], digest: [u8; 32]) {
+    assert_eq!(sha256::digest(message), digest);
+    let mut out = [OLD; 32];
+    assert_eq!(primitives::sha256(message, &mut out), DONE);
+    assert_eq!(out, digest);
+}
+
+#[test]
+fn sha256_messages() {
+    let cases = cases(include_str!("../vectors/sha256.txt"));
+    assert_eq!(cases.len(), 3);
+    for [message, digest] in cases {
+        check_sha256(&bytes(message), array(digest));
+    }
+}
+
+/// A million times "a".
+#[test]
+fn sha256_long() {
+    let digest = array("cdc76e5c9914fb9281a1c7e284d73e67f1809a48a497200e046d39ccc7112cd0");
+    check_sha256(&[b'a'; 1_000_000], digest);
+}
+
+fn check_hmac_sha256(key: &[u8], message: &[u8], mac: [u8; 32]) {
+    assert_eq!(hmac::mac(key, message), mac);
+    let mut out = [OLD; 32];
+    assert_eq!(primitives::hmac_sha256(key, message, &mut out), DONE);
+    assert_eq!(out, mac);
+}
+
+#[test]
+fn hmac_sha256() {
+    let cases = cases(include_str!("../vectors/hmac_sha256.txt"));
+    assert_eq!(cases.len(), 6);
+    for [key, message, mac] in cases {
+        check_hmac_sha256(&bytes(key), &bytes(message), array(mac));
+    }
+}
+
+/// The other lines of this file run through the calls of the vault.
+#[test]
+fn distinct_inputs() {
+    let (enc, mac) = (0x00..0x20, 0x20..0x40);
+    let mac_key: Vec<_> = mac.clone().collect();
+    let both_keys: Vec<_> = enc.chain(mac).collect();
+    let message = b"hello world";
+    let mut kinds = vec![];
+    for fields in lines(include_str!("../vectors/distinct.txt")) {
+        match fields[..] {
+            ["hmac_32", value] => check_hmac_sha256(&mac_key, message, array(value)),
+            ["hmac_64", value] => check_hmac_sha256(&both_keys, message, array(value)),
+            ["sha256", value] => check_sha256(message, array(value)),
+            _ => continue,
+        }
+        kinds.push(fields[0]);
+    }
+    assert_eq!(kinds, ["hmac_32", "hmac_64", "sha256"]);
 }
 
 /// The whole group of RFC 4648, section 10, as often as 20 bytes take.

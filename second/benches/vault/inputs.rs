@@ -2,7 +2,7 @@
 
 use crate::random::Random;
 use crate::text::random_character;
-use second::vault::{self, CHUNK_LEN, MAX_CLEARTEXT_LEN};
+use second::vault::{Combo, Vault, CHUNK_LEN, MAX_CLEARTEXT_LEN};
 use std::ops::RangeInclusive;
 
 pub const ENC: [u8; 32] = [0x55; 32];
@@ -10,6 +10,10 @@ pub const MAC: [u8; 32] = [0x77; 32];
 pub const CONTENT_KEY: [u8; 32] = [0x33; 32];
 pub const NONCE: [u8; 12] = [0x11; 12];
 pub const DIR_ID: &[u8] = b"e9250eb8-078d-4fc0-8835-be92a313360c";
+
+pub fn vault() -> Vault {
+    Vault::new(&ENC, &MAC, Combo::SivGcm).expect("two keys")
+}
 
 /// A cleartext of the longest length, with a nonce for each chunk.
 pub struct Cleartext {
@@ -27,10 +31,11 @@ impl Cleartext {
     }
 
     pub fn file(&self) -> Vec<u8> {
-        let length = vault::file_length(self.bytes.len() as u64).expect("within the limit");
-        let mut file = vec![0; length as usize];
         let Cleartext { bytes, nonces } = self;
-        vault::write_file(&ENC, &MAC, &NONCE, &CONTENT_KEY, nonces, bytes, &mut file)
+        let length = vault().file_length(bytes.len() as u64);
+        let mut file = vec![0; length.expect("within the limit") as usize];
+        vault()
+            .write_file(&NONCE, &CONTENT_KEY, nonces, bytes, &mut file)
             .expect("nothing to refuse");
         file
     }

@@ -1,8 +1,8 @@
 //! Names that are shortened, up to the longest.
 
-use crate::inputs::{names, DIR_ID, ENC, MAC};
+use crate::inputs::{names, vault, DIR_ID, ENC, MAC};
 use crate::time::both;
-use second::vault::{self, WrittenName};
+use second::vault::WrittenName;
 
 const NAMES: usize = 10_000;
 const SHORTEST: usize = 147;
@@ -36,7 +36,7 @@ fn write(names: &[Vec<u8>]) {
         |out| {
             let (out, _) = out.as_chunks_mut();
             for ([stored, full], name) in out.iter_mut().zip(names) {
-                let written = vault::write_name(&ENC, &MAC, DIR_ID, name, stored, full);
+                let written = vault().write_name(DIR_ID, name, stored, full);
                 assert!(written.is_ok());
             }
         },
@@ -56,7 +56,7 @@ fn open(names: &[Vec<u8>]) {
         },
         |out| {
             for (out, [stored, full]) in out.iter_mut().zip(&texts) {
-                let opened = vault::open_long_name(&ENC, &MAC, DIR_ID, stored, full, out);
+                let opened = vault().open_long_name(DIR_ID, stored, full, out);
                 assert!(opened.is_ok());
             }
         },
@@ -66,7 +66,7 @@ fn open(names: &[Vec<u8>]) {
 /// The hash name and the full name.
 fn texts(name: &[u8]) -> [Vec<u8>; 2] {
     let [mut stored, mut full] = [HASH_NAME, LONGEST_FULL_NAME].map(|len| vec![0; len]);
-    let written = vault::write_name(&ENC, &MAC, DIR_ID, name, &mut stored, &mut full);
+    let written = vault().write_name(DIR_ID, name, &mut stored, &mut full);
     let Ok(WrittenName::Shortened { full: length, .. }) = written else {
         panic!("a name of {SHORTEST} bytes or more is shortened");
     };

@@ -1,8 +1,8 @@
 //! The calls of the vault.
 
-use crate::inputs::{names, places, Cleartext, CONTENT_KEY, DIR_ID, ENC, MAC, NONCE};
+use crate::inputs::{names, places, vault, Cleartext, CONTENT_KEY, DIR_ID, ENC, MAC, NONCE};
 use crate::time::both;
-use second::vault;
+use second::vault::WrittenName;
 
 const RANGES: usize = 1000;
 const RANGE_LEN: usize = 200;
@@ -28,7 +28,11 @@ fn write_file(Cleartext { bytes, nonces }: &Cleartext, len: usize) {
             skrapnefja::write_file(&ENC, &MAC, &NONCE, &CONTENT_KEY, nonces, bytes, &mut out[0])
                 .ok()
         },
-        |out| vault::write_file(&ENC, &MAC, &NONCE, &CONTENT_KEY, nonces, bytes, &mut out[0]).ok(),
+        |out| {
+            vault()
+                .write_file(&NONCE, &CONTENT_KEY, nonces, bytes, &mut out[0])
+                .ok()
+        },
     );
 }
 
@@ -37,7 +41,7 @@ fn open_file(file: &[u8], len: usize) {
         "file of 16 MiB opened",
         &mut [vec![0; len]],
         |out| skrapnefja::open_file(&ENC, &MAC, file, &mut out[0]).ok(),
-        |out| vault::open_file(&ENC, &MAC, file, &mut out[0]).ok(),
+        |out| vault().open_file(file, &mut out[0]).ok(),
     );
 }
 
@@ -55,9 +59,7 @@ fn read_ranges(file: &[u8]) {
         },
         |out| {
             let mut reads = out.iter_mut().zip(&places);
-            reads.all(|(out, &from)| {
-                vault::read_range(&ENC, &MAC, file, from, count, out) == Ok(RANGE_LEN)
-            })
+            reads.all(|(out, &from)| vault().read_range(file, from, count, out) == Ok(RANGE_LEN))
         },
     );
 }
@@ -74,9 +76,7 @@ fn write_names(names: &[Vec<u8>]) {
         },
         |out| {
             let mut writes = out.iter_mut().zip(names);
-            writes.all(|(out, name)| {
-                vault::write_name(&ENC, &MAC, DIR_ID, name, out, &mut []).is_ok()
-            })
+            writes.all(|(out, name)| vault().write_name(DIR_ID, name, out, &mut []).is_ok())
         },
     );
 }
@@ -93,15 +93,15 @@ fn open_names(names: &[Vec<u8>]) {
         },
         |out| {
             let mut opens = out.iter_mut().zip(&stored);
-            opens.all(|(out, stored)| vault::open_name(&ENC, &MAC, DIR_ID, stored, out).is_ok())
+            opens.all(|(out, stored)| vault().open_name(DIR_ID, stored, out).is_ok())
         },
     );
 }
 
 fn stored(name: &[u8]) -> Vec<u8> {
     let mut stored = vec![0; LONGEST_STORED];
-    let written = vault::write_name(&ENC, &MAC, DIR_ID, name, &mut stored, &mut []);
-    let Ok(vault::WrittenName::Plain(length)) = written else {
+    let written = vault().write_name(DIR_ID, name, &mut stored, &mut []);
+    let Ok(WrittenName::Plain(length)) = written else {
         panic!("a name of up to 146 bytes is stored as it is");
     };
     stored.truncate(length);

@@ -1,19 +1,20 @@
 //! Directory IDs, and the paths of directories.
 
-use super::sizes::{put, room, MasterKeys};
-use super::Refusal;
+use super::sizes::{put, room};
+use super::{Refusal, Vault};
 use crate::{base32, sha1, siv};
 
 const PATH_LEN: usize = 36;
 
-pub fn dir_path(enc: &[u8], mac: &[u8], dir_id: &[u8], out: &mut [u8]) -> Result<usize, Refusal> {
-    let keys = MasterKeys::new(enc, mac)?;
-    check_id(dir_id)?;
-    room(out, PATH_LEN)?;
-    let sealed = siv::seal(keys.mac, keys.enc, &[], dir_id);
-    let hash = base32::encode(&sha1::digest(&sealed));
-    let (start, rest) = hash.split_at(2);
-    Ok(put(out, format!("/d/{start}/{rest}").as_bytes()))
+impl Vault {
+    pub fn dir_path(&self, dir_id: &[u8], out: &mut [u8]) -> Result<usize, Refusal> {
+        check_id(dir_id)?;
+        room(out, PATH_LEN)?;
+        let sealed = siv::seal(&self.mac, &self.enc, &[], dir_id);
+        let hash = base32::encode(&sha1::digest(&sealed));
+        let (start, rest) = hash.split_at(2);
+        Ok(put(out, format!("/d/{start}/{rest}").as_bytes()))
+    }
 }
 
 /// Row 2.
@@ -23,15 +24,18 @@ pub fn check_id(dir_id: &[u8]) -> Result<(), Refusal> {
 
 #[cfg(test)]
 mod tests {
+    use super::super::samples::COMBOS;
     use super::*;
 
-    /// A value of the stock program's tests: the root.
+    /// A value of the stock program's tests: the root, in either combo.
     #[test]
     fn stock_program() {
-        let mut out = [b'.'; PATH_LEN + 1];
-        let length = dir_path(&[0x55; 32], &[0x77; 32], b"", &mut out);
-        assert_eq!(length, Ok(PATH_LEN));
-        assert_eq!(&out, b"/d/VL/WEHT553J5DR7OZLRJAYDIWFCXZABOD.");
+        for combo in COMBOS {
+            let vault = Vault::new(&[0x55; 32], &[0x77; 32], combo).expect("two keys");
+            let mut out = [b'.'; PATH_LEN + 1];
+            assert_eq!(vault.dir_path(b"", &mut out), Ok(PATH_LEN));
+            assert_eq!(&out, b"/d/VL/WEHT553J5DR7OZLRJAYDIWFCXZABOD.");
+        }
     }
 
     #[test]

@@ -1,11 +1,11 @@
 //! Names of entries, plain and shortened.
 
 use super::directory::check_id;
-use super::sizes::{put, room, MasterKeys};
+use super::sizes::{put, room};
 use super::text::{
     full_len, full_name, hash_name, sealed_name, HASH_NAME_LEN, MAX_NAME_LEN, MAX_PLAIN_LEN,
 };
-use super::Refusal;
+use super::{Refusal, Vault};
 use crate::siv::{self, IV_LEN};
 use crate::utf8;
 
@@ -20,95 +20,101 @@ pub enum WrittenName {
     },
 }
 
-pub fn write_name(
-    enc: &[u8],
-    mac: &[u8],
-    dir_id: &[u8],
-    name: &[u8],
-    stored: &mut [u8],
-    full: &mut [u8],
-) -> Result<WrittenName, Refusal> {
-    let keys = MasterKeys::new(enc, mac)?;
-    check_id(dir_id)?;
-    Refusal::Name.unless((1..=MAX_NAME_LEN).contains(&name.len()))?;
-    Refusal::Name.unless(utf8::is_proper(name))?;
-    let length = full_len(name.len());
-    let plain = length <= MAX_PLAIN_LEN;
-    if plain {
-        room(stored, length)?;
-    } else {
-        room(stored, HASH_NAME_LEN)?;
-        room(full, length)?;
+impl Vault {
+    pub fn write_name(
+        &self,
+        dir_id: &[u8],
+        name: &[u8],
+        stored: &mut [u8],
+        full: &mut [u8],
+    ) -> Result<WrittenName, Refusal> {
+        check_id(dir_id)?;
+        Refusal::Name.unless((1..=MAX_NAME_LEN).contains(&name.len()))?;
+        Refusal::Name.unless(utf8::is_proper(name))?;
+        let length = full_len(name.len());
+        let plain = length <= MAX_PLAIN_LEN;
+        if plain {
+            room(stored, length)?;
+        } else {
+            room(stored, HASH_NAME_LEN)?;
+            room(full, length)?;
+        }
+
+        let text = full_name(&siv::seal(&self.mac, &self.enc, &[dir_id], name));
+        if plain {
+            return Ok(WrittenName::Plain(put(stored, text.as_bytes())));
+        }
+        Ok(WrittenName::Shortened {
+            stored: put(stored, hash_name(text.as_bytes()).as_bytes()),
+            full: put(full, text.as_bytes()),
+        })
     }
 
-    let text = full_name(&siv::seal(keys.mac, keys.enc, &[dir_id], name));
-    if plain {
-        return Ok(WrittenName::Plain(put(stored, text.as_bytes())));
+    pub fn open_name(
+        &self,
+        dir_id: &[u8],
+        stored: &[u8],
+        out: &mut [u8],
+    ) -> Result<usize, Refusal> {
+        check_id(dir_id)?;
+        Refusal::Text.unless(stored.len() <= MAX_PLAIN_LEN)?;
+        let sealed = sealed_name(stored).ok_or(Refusal::Text)?;
+        room(out, sealed.len() - IV_LEN)?;
+        self.open_sealed_name(dir_id, &sealed, out)
     }
-    Ok(WrittenName::Shortened {
-        stored: put(stored, hash_name(text.as_bytes()).as_bytes()),
-        full: put(full, text.as_bytes()),
-    })
-}
 
-pub fn open_name(
-    enc: &[u8],
-    mac: &[u8],
-    dir_id: &[u8],
-    stored: &[u8],
-    out: &mut [u8],
-) -> Result<usize, Refusal> {
-    let keys = MasterKeys::new(enc, mac)?;
-    check_id(dir_id)?;
-    Refusal::Text.unless(stored.len() <= MAX_PLAIN_LEN)?;
-    let sealed = sealed_name(stored).ok_or(Refusal::Text)?;
-    room(out, sealed.len() - IV_LEN)?;
-    open(&keys, dir_id, &sealed, out)
-}
+    /// Opens a name by its stored name, the hash, and its full name.
+    pub fn open_long_name(
+        &self,
+        dir_id: &[u8],
+        stored: &[u8],
+        full: &[u8],
+        out: &mut [u8],
+    ) -> Result<usize, Refusal> {
+        check_id(dir_id)?;
+        let sealed = sealed_name(full).ok_or(Refusal::Text)?;
+        room(out, sealed.len() - IV_LEN)?;
+        Refusal::HashName.unless(full.len() > MAX_PLAIN_LEN)?;
+        Refusal::HashName.unless(stored == hash_name(full).as_bytes())?;
+        self.open_sealed_name(dir_id, &sealed, out)
+    }
 
-/// Opens a name by its stored name, the hash, and its full name.
-pub fn open_long_name(
-    enc: &[u8],
-    mac: &[u8],
-    dir_id: &[u8],
-    stored: &[u8],
-    full: &[u8],
-    out: &mut [u8],
-) -> Result<usize, Refusal> {
-    let keys = MasterKeys::new(enc, mac)?;
-    check_id(dir_id)?;
-    let sealed = sealed_name(full).ok_or(Refusal::Text)?;
-    room(out, sealed.len() - IV_LEN)?;
-    Refusal::HashName.unless(full.len() > MAX_PLAIN_LEN)?;
-    Refusal::HashName.unless(stored == hash_name(full).as_bytes())?;
-    open(&keys, dir_id, &sealed, out)
-}
-
-/// Rows 12 and 3, in this order.
-fn open(keys: &MasterKeys, dir_id: &[u8], sealed: &[u8], out: &mut [u8]) -> Result<usize, Refusal> {
-    let name = siv::open(keys.mac, keys.enc, &[dir_id], sealed).ok_or(Refusal::SyntheticIv)?;
-    Refusal::Name.unless(utf8::is_proper(&name))?;
-    Ok(put(out, &name))
+    /// Rows 12 and 3, in this order.
+    fn open_sealed_name(
+        &self,
+        dir_id: &[u8],
+        sealed: &[u8],
+        out: &mut [u8],
+    ) -> Result<usize, Refusal> {
+        let name = siv::open(&self.mac, &self.enc, &[dir_id], sealed);
+        let name = name.ok_or(Refusal::SyntheticIv)?;
+        Refusal::Name.unless(utf8::is_proper(&name))?;
+        Ok(put(out, &name))
+    }
 }
 
 #[cfg(test)]
 mod tests {
+    use super::super::samples::{self, COMBOS};
+    use super::super::Combo;
     use super::*;
 
-    const ENC: [u8; 32] = [1; 32];
-    const MAC: [u8; 32] = [2; 32];
+    fn vault() -> Vault {
+        samples::vault(Combo::SivGcm)
+    }
 
     #[test]
     fn written_names_open() {
+        let vault = vault();
         for len in 1..=MAX_NAME_LEN {
             let name: Vec<_> = (0..len).map(|i| b'0' + i as u8 % 75).collect();
             let (mut stored, mut full, mut out) = ([0; 220], [0; 1388], [0; MAX_NAME_LEN]);
-            let written = write_name(&ENC, &MAC, b"id", &name, &mut stored, &mut full);
+            let written = vault.write_name(b"id", &name, &mut stored, &mut full);
             let opened = match written {
                 Ok(WrittenName::Plain(length)) => {
                     assert_eq!((length, full), (full_len(len), [0; 1388]));
                     assert!(len <= 146);
-                    open_name(&ENC, &MAC, b"id", &stored[..length], &mut out)
+                    vault.open_name(b"id", &stored[..length], &mut out)
                 }
                 Ok(WrittenName::Shortened {
                     stored: short,
@@ -116,7 +122,7 @@ mod tests {
                 }) => {
                     assert_eq!((short, length), (32, full_len(len)));
                     let pair = (&stored[..short], &full[..length]);
-                    open_long_name(&ENC, &MAC, b"id", pair.0, pair.1, &mut out)
+                    vault.open_long_name(b"id", pair.0, pair.1, &mut out)
                 }
                 Err(refusal) => panic!("{refusal:?}"),
             };
@@ -126,16 +132,17 @@ mod tests {
 
     #[test]
     fn not_text() {
+        let vault = vault();
         for name in [&b"\xff"[..], b"a/b", b"\0", b"caf\xc3"] {
             let mut stored = [7; 220];
-            let written = write_name(&ENC, &MAC, b"id", name, &mut stored, &mut []);
+            let written = vault.write_name(b"id", name, &mut stored, &mut []);
             assert_eq!((written, stored), (Err(Refusal::Name), [7; 220]));
 
-            let text = full_name(&siv::seal(&MAC, &ENC, &[b"id"], name));
+            let text = full_name(&siv::seal(&vault.mac, &vault.enc, &[b"id"], name));
             let mut out = [7; 8];
-            let opened = open_name(&ENC, &MAC, b"id", text.as_bytes(), &mut out);
+            let opened = vault.open_name(b"id", text.as_bytes(), &mut out);
             assert_eq!((opened, out), (Err(Refusal::Name), [7; 8]));
-            let opened = open_name(&ENC, &MAC, b"other", text.as_bytes(), &mut out);
+            let opened = vault.open_name(b"other", text.as_bytes(), &mut out);
             assert_eq!((opened, out), (Err(Refusal::SyntheticIv), [7; 8]));
         }
     }
@@ -143,24 +150,39 @@ mod tests {
     /// The ID of the root is empty, yet there: not as for a path.
     #[test]
     fn root() {
+        let vault = vault();
         let mut stored = [0; 220];
-        let written = write_name(&ENC, &MAC, b"", b"name", &mut stored, &mut []);
+        let written = vault.write_name(b"", b"name", &mut stored, &mut []);
         assert_eq!(written, Ok(WrittenName::Plain(32)));
         let sealed = sealed_name(&stored[..32]).expect("a full name");
         assert_eq!(
-            siv::open(&MAC, &ENC, &[b""], &sealed),
+            siv::open(&vault.mac, &vault.enc, &[b""], &sealed),
             Some(b"name".to_vec())
         );
-        assert_eq!(siv::open(&MAC, &ENC, &[], &sealed), None);
+        assert_eq!(siv::open(&vault.mac, &vault.enc, &[], &sealed), None);
     }
 
     #[test]
     fn moved() {
+        let vault = vault();
         let mut stored = [0; 220];
-        let written = write_name(&ENC, &MAC, b"here", b"name", &mut stored, &mut []);
+        let written = vault.write_name(b"here", b"name", &mut stored, &mut []);
         assert_eq!(written, Ok(WrittenName::Plain(32)));
         let mut out = [7; 4];
-        let opened = open_name(&ENC, &MAC, b"there", &stored[..32], &mut out);
+        let opened = vault.open_name(b"there", &stored[..32], &mut out);
         assert_eq!((opened, out), (Err(Refusal::SyntheticIv), [7; 4]));
+    }
+
+    /// The combo is one of contents.
+    #[test]
+    fn either_combo() {
+        for name in [vec![b'n'; 146], vec![b'n'; 147]] {
+            let [gcm, ctrmac] = COMBOS.map(samples::vault).map(|vault| {
+                let (mut stored, mut full) = ([0; 220], [0; 1388]);
+                let written = vault.write_name(b"id", &name, &mut stored, &mut full);
+                (written, stored, full)
+            });
+            assert_eq!(gcm, ctrmac);
+        }
     }
 }

@@ -3,8 +3,8 @@
 /// Why a call wrote nothing, by the rows of the table.
 #[derive(Clone, Copy, Debug, PartialEq, Eq)]
 pub enum Refusal {
-    /// A key is not 32 bytes, a nonce is not 12, or there are not 12 bytes of
-    /// nonces for each chunk.
+    /// A key is not 32 bytes, a nonce is not as long as the combo's, or there is
+    /// not one of these for each chunk.
     KeyOrNonceSize,
     /// The directory ID has more than 36 bytes, or one of 128 or more.
     DirectoryId,

@@ -1,26 +1,10 @@
 //! Sizes of keys, nonces and buffers.
 
 use super::Refusal;
-use crate::aes::KEY_LEN;
 
 /// A key or nonce by its size (row 1).
 pub fn sized<const N: usize>(bytes: &[u8]) -> Result<&[u8; N], Refusal> {
     bytes.try_into().map_err(|_| Refusal::KeyOrNonceSize)
-}
-
-/// The master keys. Both have the right size, whichever a call uses.
-pub struct MasterKeys<'a> {
-    pub enc: &'a [u8; KEY_LEN],
-    pub mac: &'a [u8; KEY_LEN],
-}
-
-impl<'a> MasterKeys<'a> {
-    pub fn new(enc: &'a [u8], mac: &'a [u8]) -> Result<Self, Refusal> {
-        Ok(MasterKeys {
-            enc: sized(enc)?,
-            mac: sized(mac)?,
-        })
-    }
 }
 
 /// Whether the buffer has room for an answer of this length (row 7).

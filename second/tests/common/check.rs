@@ -6,7 +6,7 @@
 
 use super::primitives::{self, DONE, REFUSED};
 use second::aes::Aes256;
-use second::{base32, base64url, cmac, gcm, sha1, siv, utf8};
+use second::{base32, base64url, cmac, ctr, gcm, hmac, sha1, sha256, siv, utf8};
 use std::slice;
 
 /// The longest cleartext that the static library seals and opens by SIV.
@@ -84,10 +84,33 @@ pub fn siv_open(
     compare("siv_open", &inputs, answer, out, call)
 }
 
+pub fn ctr128(key: &[u8], first_counter: &[u8], text: &[u8], out: &[u8]) -> bool {
+    let answer = sized(key, first_counter).map(|(key, first_counter)| {
+        let mut data = text.to_vec();
+        let counter = u128::from_be_bytes(*first_counter);
+        ctr::apply(&Aes256::new(key), counter, &mut data);
+        data
+    });
+    let call = |out: &mut _| primitives::ctr128(key, first_counter, text, out);
+    compare("ctr128", &[key, first_counter, text], answer, out, call)
+}
+
 pub fn sha1(message: &[u8], out: &[u8]) -> bool {
     let answer = sha1::digest(message).to_vec();
     let call = |out: &mut _| primitives::sha1(message, out);
     compare("sha1", &[message], Some(answer), out, call)
+}
+
+pub fn sha256(message: &[u8], out: &[u8]) -> bool {
+    let answer = sha256::digest(message).to_vec();
+    let call = |out: &mut _| primitives::sha256(message, out);
+    compare("sha256", &[message], Some(answer), out, call)
+}
+
+pub fn hmac_sha256(key: &[u8], message: &[u8], out: &[u8]) -> bool {
+    let answer = hmac::mac(key, message).to_vec();
+    let call = |out: &mut _| primitives::hmac_sha256(key, message, out);
+    compare("hmac_sha256", &[key, message], Some(answer), out, call)
 }
 
 pub fn base32(data: &[u8], out: &[u8]) -> bool {

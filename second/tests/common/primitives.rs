@@ -65,7 +65,10 @@ functions! {
         mac_key: input, enc_key: input, ad_given: flag, ad: input, cleartext: input, out: buffer);
     primitives_siv_open as siv_open(
         mac_key: input, enc_key: input, ad_given: flag, ad: input, sealed: input, out: buffer);
+    primitives_ctr128 as ctr128(key: input, first_counter: input, text: input, out: buffer);
     primitives_sha1 as sha1(message: input, out: buffer);
+    primitives_sha256 as sha256(message: input, out: buffer);
+    primitives_hmac_sha256 as hmac_sha256(key: input, message: input, out: buffer);
     primitives_base32 as base32(data: input, out: buffer);
     primitives_base64url_encode as base64url_encode(data: input, padded: flag, out: buffer);
     primitives_base64url_decode as base64url_decode(

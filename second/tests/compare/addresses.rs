@@ -3,7 +3,7 @@
 use crate::common::random::Random;
 use crate::common::{check, gcm_message, siv_message};
 use crate::{NO, YES};
-use second::aes::BLOCK_LEN;
+use second::aes::{BLOCK_LEN, KEY_LEN};
 use second::base64url;
 
 /// A copy of the input some bytes after the start of a vector.
@@ -63,7 +63,21 @@ fn cmac_and_siv() {
 }
 
 #[test]
-fn sha1_and_text() {
+fn ctr_and_hmac() {
+    let mut random = Random::new(14);
+    for offset in 0..16 {
+        let moved = |input: Vec<u8>| Moved::new(offset, &input);
+        let [key, counter, text] = [KEY_LEN, BLOCK_LEN, 200].map(|len| moved(random.bytes(len)));
+        let [key, counter, text] = [&key, &counter, &text].map(Moved::input);
+        let out = random.array::<200>();
+        assert!(check::ctr128(key, counter, text, &out));
+        assert!(check::hmac_sha256(key, text, &out));
+        assert!(check::hmac_sha256(text, text, &out));
+    }
+}
+
+#[test]
+fn hashes_and_text() {
     let mut random = Random::new(13);
     for offset in 0..16 {
         let data = random.bytes(200);
@@ -75,6 +89,7 @@ fn sha1_and_text() {
         let (data, text) = (data.input(), text.input());
         let out = random.array::<300>();
         assert!(check::sha1(data, &out));
+        assert!(check::sha256(data, &out));
         assert!(check::base32(&data[..20], &out));
         assert!(check::base64url_encode(data, NO, &out));
         assert!(check::base64url_decode(text, NO, &out, 0));

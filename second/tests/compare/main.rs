@@ -18,8 +18,11 @@ mod base32;
 mod base64url_decode;
 mod base64url_encode;
 mod cmac;
+mod ctr;
 mod gcm;
+mod hmac;
 mod sha1;
+mod sha256;
 mod siv;
 mod utf8;
 

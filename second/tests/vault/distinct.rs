@@ -8,6 +8,13 @@ use crate::{known, Part};
 
 pub const PARTS: &[Part] = &[("values of distinct inputs", values)];
 
+/// Values that no call of the vault gives: they run with the other vectors.
+const HASHES: [&str; 3] = ["hmac_32", "hmac_64", "sha256"];
+
+/// Values of SIV_CTRMAC, which the library's calls do not take: they run in
+/// the tests of that combo.
+const OTHER_COMBO: [&str; 3] = ["ctrmac_header", "ctrmac_reserved", "ctrmac_chunk"];
+
 fn values(compare: &mut Compare) {
     let mut kinds = vec![];
     for fields in lines(include_str!("../../vectors/distinct.txt")) {
@@ -35,6 +42,8 @@ fn values(compare: &mut Compare) {
             ["wrapped", wrapped] => {
                 known::wrapped_key(compare, [enc(), content_key()], bytes(wrapped));
             }
+            [kind, _] if HASHES.contains(&kind) => {}
+            [kind, ..] if OTHER_COMBO.contains(&kind) => {}
             _ => panic!("not a value: {fields:?}"),
         }
         kinds.push(fields[0]);

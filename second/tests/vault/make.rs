@@ -7,7 +7,7 @@ mod sizes;
 
 use crate::case::{Call, Case};
 use crate::common::random::Random;
-use second::vault::{self, CHUNK_LEN};
+use second::vault::{Combo, Vault, CHUNK_LEN};
 
 pub use content::*;
 pub use keys::*;
@@ -61,12 +61,17 @@ pub fn case(call: Call, random: &mut Random) -> Case {
         Call::DirPath => dir_path(random),
         Call::FileLength => number(call, random.below(16_777_217) as u64),
         Call::CleartextLength => {
-            let length = vault::file_length(random.below(16_777_217) as u64);
+            let length = any_vault().file_length(random.below(16_777_217) as u64);
             number(call, length.expect("within the limit"))
         }
         Call::WrapKey => wrap_key(random),
         Call::UnwrapKey => unwrap_key(random),
     }
+}
+
+/// A vault for the calls that take no key of it.
+pub fn any_vault() -> Vault {
+    Vault::new(&[0; 32], &[0; 32], Combo::SivGcm).expect("two keys")
 }
 
 pub fn number(call: Call, number: u64) -> Case {

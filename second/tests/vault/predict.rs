@@ -1,7 +1,8 @@
 //! What a call must do, according to `second`.
 
 use crate::case::{Call, Case, End, OLD_LENGTH, OLD_OTHER};
-use second::vault::{self, Refusal, WrittenName};
+use crate::make::any_vault;
+use second::vault::{self, Combo, Refusal, Vault, WrittenName};
 
 pub fn end(case: &Case) -> End {
     let mut buffers = case.buffers.clone();
@@ -18,50 +19,71 @@ pub fn end(case: &Case) -> End {
     }
 }
 
-/// Gives the length, and from a call that sets it the other number.
-fn run(case: &Case, buffers: &mut [Vec<u8>]) -> Result<(u64, Option<u64>), Refusal> {
+/// The length, and from a call that sets it the other number.
+type Answer = Result<(u64, Option<u64>), Refusal>;
+
+fn run(case: &Case, buffers: &mut [Vec<u8>]) -> Answer {
     let length = match (case.call, &case.inputs[..], &case.numbers[..], buffers) {
-        (Call::WriteHeader, [enc, mac, nonce, content_key], [], [out]) => {
-            vault::write_header(enc, mac, nonce, content_key, out)
-        }
-        (Call::OpenHeader, [enc, mac, header], [], [out]) => {
-            let (length, reserved) = vault::open_header(enc, mac, header, out)?;
-            return Ok((length as u64, Some(u64::from_be_bytes(reserved))));
-        }
         (Call::WriteChunk, [content_key, header_nonce, nonce, cleartext], &[number], [out]) => {
-            vault::write_chunk(content_key, header_nonce, number, nonce, cleartext, out)
+            any_vault().write_chunk(content_key, header_nonce, number, nonce, cleartext, out)
         }
         (Call::OpenChunk, [content_key, header_nonce, chunk], &[number], [out]) => {
-            vault::open_chunk(content_key, header_nonce, number, chunk, out)
+            any_vault().open_chunk(content_key, header_nonce, number, chunk, out)
         }
-        (Call::WriteFile, [enc, mac, nonce, content_key, nonces, cleartext], [], [out]) => {
-            vault::write_file(enc, mac, nonce, content_key, nonces, cleartext, out)
+        (Call::FileLength, [], &[length], []) => {
+            return Ok((any_vault().file_length(length)?, None))
         }
-        (Call::OpenFile, [enc, mac, file], [], [out]) => vault::open_file(enc, mac, file, out),
-        (Call::ReadRange, [enc, mac, file], &[from, count], [out]) => {
-            vault::read_range(enc, mac, file, from, count, out)
+        (Call::CleartextLength, [], &[length], []) => {
+            return Ok((any_vault().cleartext_length(length)?, None))
         }
-        (Call::WriteName, [enc, mac, dir_id, name], [], [stored, full]) => {
-            let lengths = match vault::write_name(enc, mac, dir_id, name, stored, full)? {
+        (Call::WrapKey, [kek, key], [], [out]) => vault::wrap_key(kek, key, out),
+        (Call::UnwrapKey, [kek, wrapped], [], [out]) => vault::unwrap_key(kek, wrapped, out),
+        (call, [enc, mac, inputs @ ..], numbers, buffers) => {
+            let vault = Vault::new(enc, mac, Combo::SivGcm)?;
+            return run_with_keys(&vault, call, inputs, numbers, buffers);
+        }
+        _ => panic!("not what {:?} takes", case.call),
+    };
+    Ok((length? as u64, None))
+}
+
+/// The calls that the library lends both master keys. What it gives for a key
+/// of another size, the making of the vault gives here.
+fn run_with_keys(
+    vault: &Vault,
+    call: Call,
+    inputs: &[Vec<u8>],
+    numbers: &[u64],
+    buffers: &mut [Vec<u8>],
+) -> Answer {
+    let length = match (call, inputs, numbers, buffers) {
+        (Call::WriteHeader, [nonce, content_key], [], [out]) => {
+            vault.write_header(nonce, content_key, out)
+        }
+        (Call::OpenHeader, [header], [], [out]) => {
+            let (length, reserved) = vault.open_header(header, out)?;
+            return Ok((length as u64, Some(u64::from_be_bytes(reserved))));
+        }
+        (Call::WriteFile, [nonce, content_key, nonces, cleartext], [], [out]) => {
+            vault.write_file(nonce, content_key, nonces, cleartext, out)
+        }
+        (Call::OpenFile, [file], [], [out]) => vault.open_file(file, out),
+        (Call::ReadRange, [file], &[from, count], [out]) => {
+            vault.read_range(file, from, count, out)
+        }
+        (Call::WriteName, [dir_id, name], [], [stored, full]) => {
+            let lengths = match vault.write_name(dir_id, name, stored, full)? {
                 WrittenName::Plain(stored) => (stored, 0),
                 WrittenName::Shortened { stored, full } => (stored, full),
             };
             return Ok((lengths.0 as u64, Some(lengths.1 as u64)));
         }
-        (Call::OpenName, [enc, mac, dir_id, stored], [], [out]) => {
-            vault::open_name(enc, mac, dir_id, stored, out)
+        (Call::OpenName, [dir_id, stored], [], [out]) => vault.open_name(dir_id, stored, out),
+        (Call::OpenLongName, [dir_id, stored, full], [], [out]) => {
+            vault.open_long_name(dir_id, stored, full, out)
         }
-        (Call::OpenLongName, [enc, mac, dir_id, stored, full], [], [out]) => {
-            vault::open_long_name(enc, mac, dir_id, stored, full, out)
-        }
-        (Call::DirPath, [enc, mac, dir_id], [], [out]) => vault::dir_path(enc, mac, dir_id, out),
-        (Call::FileLength, [], &[length], []) => return Ok((vault::file_length(length)?, None)),
-        (Call::CleartextLength, [], &[length], []) => {
-            return Ok((vault::cleartext_length(length)?, None))
-        }
-        (Call::WrapKey, [kek, key], [], [out]) => vault::wrap_key(kek, key, out),
-        (Call::UnwrapKey, [kek, wrapped], [], [out]) => vault::unwrap_key(kek, wrapped, out),
-        _ => panic!("not what {:?} takes", case.call),
+        (Call::DirPath, [dir_id], [], [out]) => vault.dir_path(dir_id, out),
+        _ => panic!("not what {call:?} takes"),
     };
     Ok((length? as u64, None))
 }

@@ -20,6 +20,8 @@ fn values(compare: &mut Compare) {
                 let number = number.parse().expect("a number");
                 known::chunk(compare, inputs, number, base64(chunk));
             }
+            // The library's calls do not take SIV_CTRMAC: it runs in the tests of that combo.
+            ["ctrmac_chunk", ..] => {}
             ["path", enc, mac, id, path] => {
                 known::path(compare, [enc, mac, id].map(bytes), path);
             }
@@ -30,7 +32,10 @@ fn values(compare: &mut Compare) {
         }
         kinds.push(fields[0]);
     }
-    assert_eq!(kinds, ["header", "chunk", "path", "masterkey"]);
+    assert_eq!(
+        kinds,
+        ["header", "chunk", "path", "ctrmac_chunk", "masterkey"]
+    );
 }
 
 /// Base 64 with the alphabet that is not safe for URLs.

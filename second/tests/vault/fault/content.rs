@@ -3,8 +3,8 @@
 use super::{flip, resize};
 use crate::case::{Call, Case};
 use crate::common::random::Random;
-use crate::make::{HEADER, MAX_CHUNK, WRAPPED_KEY};
-use second::vault::{self, CHUNK_LEN};
+use crate::make::{any_vault, HEADER, MAX_CHUNK, WRAPPED_KEY};
+use second::vault::CHUNK_LEN;
 
 pub fn length(case: &mut Case, random: &mut Random) {
     match case.call {
@@ -62,7 +62,7 @@ fn large(random: &mut Random, least: u64) -> u64 {
 
 pub fn range(case: &mut Case, random: &mut Random) {
     let file = case.inputs[2].len() as u64;
-    let end = vault::cleartext_length(file).expect("a right length");
+    let end = any_vault().cleartext_length(file).expect("a right length");
     let more = 1 + random.below(3) as u64;
     let near = random.below(end as usize + 1) as u64;
     let (from, count) = match random.below(7) {

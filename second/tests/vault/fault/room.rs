@@ -2,8 +2,8 @@
 
 use crate::case::{Call, Case};
 use crate::common::random::Random;
-use crate::make::{HEADER, WRAPPED_KEY};
-use second::vault::{self, CHUNK_LEN};
+use crate::make::{any_vault, HEADER, WRAPPED_KEY};
+use second::vault::CHUNK_LEN;
 
 /// Makes a buffer too short for what goes into it.
 pub fn room(case: &mut Case, random: &mut Random) -> bool {
@@ -32,7 +32,7 @@ fn needs(case: &Case) -> Vec<usize> {
         Call::OpenChunk => vec![input(2) - 28],
         Call::WriteFile => vec![HEADER + input(5) + 28 * input(5).div_ceil(CHUNK_LEN)],
         Call::OpenFile => {
-            let length = vault::cleartext_length(input(2) as u64);
+            let length = any_vault().cleartext_length(input(2) as u64);
             vec![length.expect("a right length") as usize]
         }
         Call::ReadRange => vec![case.numbers[1] as usize],

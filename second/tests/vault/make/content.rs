@@ -1,11 +1,11 @@
 //! Headers, chunks, files and ranges.
 
 use super::sizes::number_of_chunk;
-use super::{answer, with_room, HEADER};
+use super::{answer, any_vault, with_room, HEADER};
 use crate::case::{Call, Case};
 use crate::common::random::Random;
 use second::gcm;
-use second::vault::{self, CHUNK_LEN};
+use second::vault::CHUNK_LEN;
 
 pub fn write_header(random: &mut Random) -> Case {
     let inputs = [32, 32, 12, 32].map(|len| random.bytes(len)).to_vec();
@@ -56,13 +56,13 @@ pub fn open_chunk(random: &mut Random, len: usize) -> Case {
 pub fn write_file(random: &mut Random, len: usize) -> Case {
     let nonces = 12 * len.div_ceil(CHUNK_LEN);
     let inputs = [32, 32, 12, 32, nonces, len].map(|len| random.bytes(len));
-    let length = vault::file_length(len as u64).expect("within the limit");
+    let length = any_vault().file_length(len as u64);
     with_room(
         Call::WriteFile,
         random,
         inputs.to_vec(),
         &[],
-        length as usize,
+        length.expect("within the limit") as usize,
     )
 }
 

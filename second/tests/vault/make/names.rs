@@ -4,7 +4,7 @@ use super::{buffer, with_room, LONGEST_FULL_NAME};
 use crate::case::{Call, Case};
 use crate::common::random::Random;
 use crate::common::text::random_text;
-use second::vault::{self, WrittenName};
+use second::vault::{Combo, Vault, WrittenName};
 use second::{base64url, sha1, siv};
 
 pub fn write_name(random: &mut Random, len: usize) -> Case {
@@ -69,7 +69,8 @@ pub fn open_long_name(random: &mut Random, len: usize) -> Case {
     let [enc, mac, id, name] = &write.inputs[..] else {
         panic!("not what a name is written of");
     };
-    match vault::write_name(enc, mac, id, name, &mut stored, &mut full) {
+    let vault = Vault::new(enc, mac, Combo::SivGcm).expect("two keys");
+    match vault.write_name(id, name, &mut stored, &mut full) {
         Ok(WrittenName::Plain(length)) => {
             full = stored[..length].to_vec();
             stored = hash_name(&full);
