@@ -1,8 +1,8 @@
 /*
- * Unwraps a vault's master keys, writes a file of two chunks and reads it back, then writes two names and opens them, and has a third
- * refused. Ends with status 0 if all is as expected.
+ * Unwraps a vault's master keys and makes the vault, writes a file of two chunks in both combos and reads it back, then writes two names
+ * and opens them, and has a third refused. Ends with status 0 if all is as expected.
  * The key-encryption key, the content key and the nonces are fixed here so that each run prints the same; a real program gets the first from
- * scrypt and draws the others from a random generator.
+ * scrypt, draws the others from a random generator, and wipes keys and vaults when done.
  */
 #include <inttypes.h>
 #include <stdint.h>
@@ -13,15 +13,42 @@
 #include "skrapnefja.h"
 
 #define CLEAR_SIZE 40000 /* a whole chunk, and a second of 7,232 bytes */
-#define FILE_SIZE (SKRAPNEFJA_HEADER_SIZE + CLEAR_SIZE + 2 * SKRAPNEFJA_CHUNK_OVERHEAD)
+#define GCM_FILE_SIZE (SKRAPNEFJA_SIV_GCM_HEADER_SIZE + CLEAR_SIZE + 2 * SKRAPNEFJA_SIV_GCM_CHUNK_OVERHEAD)
+#define CTRMAC_FILE_SIZE (SKRAPNEFJA_SIV_CTRMAC_HEADER_SIZE + CLEAR_SIZE + 2 * SKRAPNEFJA_SIV_CTRMAC_CHUNK_OVERHEAD)
 #define UNTOUCHED 0xA5
+
+/* A vault with the sizes of its combo, and the file in it. */
+struct club_vault {
+    const char *combo_name;
+    uint32_t combo;
+    size_t nonce_size;
+    size_t header_size;
+    size_t file_size;
+    skrapnefja_vault vault;
+    uint8_t file[CTRMAC_FILE_SIZE];
+};
+
+/* A club has an older vault beside its own. Here both are under the same master keys. */
+static struct club_vault own = {
+    .combo_name = "SIV_GCM",
+    .combo = SKRAPNEFJA_SIV_GCM,
+    .nonce_size = SKRAPNEFJA_SIV_GCM_NONCE_SIZE,
+    .header_size = SKRAPNEFJA_SIV_GCM_HEADER_SIZE,
+    .file_size = GCM_FILE_SIZE,
+};
+static struct club_vault older = {
+    .combo_name = "SIV_CTRMAC",
+    .combo = SKRAPNEFJA_SIV_CTRMAC,
+    .nonce_size = SKRAPNEFJA_SIV_CTRMAC_NONCE_SIZE,
+    .header_size = SKRAPNEFJA_SIV_CTRMAC_HEADER_SIZE,
+    .file_size = CTRMAC_FILE_SIZE,
+};
 
 static uint8_t enc[SKRAPNEFJA_KEY_SIZE];
 static uint8_t mac[SKRAPNEFJA_KEY_SIZE];
 
 static uint8_t cleartext[CLEAR_SIZE];
-static uint8_t file[FILE_SIZE];
-static uint8_t opened[CLEAR_SIZE];
+static uint8_t opened[CTRMAC_FILE_SIZE]; /* has room for the cleartext of a file of this length in either combo */
 
 static void check(int holds, const char *what)
 {
@@ -82,53 +109,101 @@ static void unwrap_the_master_keys(void)
     check(length == sizeof wrapped && memcmp(wrapped, hmac_master_key, sizeof wrapped) == 0, "the wrapped key");
 }
 
-static void write_the_file(void)
+static void make_the_vault(struct club_vault *club)
 {
-    static const uint8_t header_nonce[SKRAPNEFJA_NONCE_SIZE] = {3};
+    uint64_t length = 0;
+
+    check(skrapnefja_make_vault(enc, sizeof enc, mac, sizeof mac, club->combo, SKRAPNEFJA_VAULT(club->vault), &length)
+              == SKRAPNEFJA_DONE,
+          "making the vault");
+    check(length == SKRAPNEFJA_VAULT_SIZE, "size of the vault");
+    printf("made a vault of %s\n", club->combo_name);
+}
+
+/* An unknown combo is refused where a vault is made and where it is lent, and so is a vault of another size. */
+static void refuse_other_vaults(void)
+{
+    skrapnefja_vault vault;
+    uint64_t length = 99;
+    uint32_t row;
+
+    memset(vault.bytes, UNTOUCHED, sizeof vault.bytes);
+    row = skrapnefja_make_vault(enc, sizeof enc, mac, sizeof mac, 3, SKRAPNEFJA_VAULT(vault), &length);
+    check(row == SKRAPNEFJA_COMBO, "an unknown combo");
+    check(length == 99 && all_untouched(vault.bytes, sizeof vault.bytes), "no vault of an unknown combo");
+    printf("made a vault of combo 3: refused %" PRIu32 "\n", row);
+
+    row = skrapnefja_file_length(SKRAPNEFJA_VAULT(vault), CLEAR_SIZE, &length);
+    check(row == SKRAPNEFJA_COMBO && length == 99, "a vault that was not made");
+    printf("lent a vault that was not made: refused %" PRIu32 "\n", row);
+
+    row = skrapnefja_file_length(own.vault.bytes, SKRAPNEFJA_VAULT_SIZE - 1, CLEAR_SIZE, &length);
+    check(row == SKRAPNEFJA_KEY_OR_NONCE_SIZE && length == 99, "a vault of another size");
+    printf("lent a vault of 64 bytes: refused %" PRIu32 "\n", row);
+}
+
+static void write_the_file(struct club_vault *club)
+{
+    static const uint8_t header_nonce[SKRAPNEFJA_SIV_CTRMAC_NONCE_SIZE] = {3};
     static const uint8_t content_key[SKRAPNEFJA_KEY_SIZE] = {4};
-    static const uint8_t chunk_nonces[2 * SKRAPNEFJA_NONCE_SIZE] = {5};
+    static const uint8_t chunk_nonces[2 * SKRAPNEFJA_SIV_CTRMAC_NONCE_SIZE] = {5};
     uint64_t length = 0;
     size_t i;
 
     for (i = 0; i < CLEAR_SIZE; i++) {
         cleartext[i] = (uint8_t)(i % 251);
     }
-    check(skrapnefja_file_length(CLEAR_SIZE, &length) == SKRAPNEFJA_DONE && length == FILE_SIZE, "length of the file");
+    check(skrapnefja_file_length(SKRAPNEFJA_VAULT(club->vault), CLEAR_SIZE, &length) == SKRAPNEFJA_DONE, "telling the length");
+    check(length == club->file_size, "length of the file");
     length = 0;
-    check(skrapnefja_write_file(enc, sizeof enc, mac, sizeof mac, header_nonce, sizeof header_nonce, content_key,
-                                sizeof content_key, chunk_nonces, sizeof chunk_nonces, cleartext, sizeof cleartext, file,
-                                sizeof file, &length) == SKRAPNEFJA_DONE,
+    check(skrapnefja_write_file(SKRAPNEFJA_VAULT(club->vault), header_nonce, club->nonce_size, content_key, sizeof content_key,
+                                chunk_nonces, 2 * club->nonce_size, cleartext, sizeof cleartext, club->file,
+                                sizeof club->file, &length) == SKRAPNEFJA_DONE,
           "writing the file");
-    check(length == FILE_SIZE, "length written");
-    printf("wrote a file of %" PRIu64 " bytes\n", length);
+    check(length == club->file_size, "length written");
+    printf("wrote a file of %" PRIu64 " bytes in %s\n", length, club->combo_name);
 }
 
-static void open_the_file(void)
+static void open_the_file(const struct club_vault *club)
 {
     uint64_t length = 0;
     uint64_t at = 77;
 
-    check(skrapnefja_open_file(enc, sizeof enc, mac, sizeof mac, file, sizeof file, opened, sizeof opened, &length, &at)
+    check(skrapnefja_open_file(SKRAPNEFJA_VAULT(club->vault), club->file, club->file_size, opened, sizeof opened, &length, &at)
               == SKRAPNEFJA_DONE,
           "opening the file");
     check(length == CLEAR_SIZE && at == 77 && memcmp(opened, cleartext, CLEAR_SIZE) == 0, "cleartext of the file");
     printf("opened it: %" PRIu64 " bytes\n", length);
 }
 
-static void open_the_header(void)
+/* By its length the file could be one of the other combo, but then its header is wrong: row 9. */
+static void open_in_the_other_combo(const struct club_vault *club, const struct club_vault *other)
+{
+    uint64_t length = 99;
+    uint64_t at = 77;
+    uint32_t row;
+
+    memset(opened, UNTOUCHED, sizeof opened);
+    row = skrapnefja_open_file(SKRAPNEFJA_VAULT(other->vault), club->file, club->file_size, opened, sizeof opened, &length, &at);
+    check(row == SKRAPNEFJA_HEADER, "a file of the other combo");
+    check(length == 99 && at == 77 && all_untouched(opened, sizeof opened), "no cleartext in the other combo");
+    printf("opened it as %s: refused %" PRIu32 "\n", other->combo_name, row);
+}
+
+static void open_the_header(const struct club_vault *club)
 {
     uint8_t content_key[SKRAPNEFJA_KEY_SIZE];
     uint64_t length = 0;
     uint64_t reserved = 0;
 
-    check(skrapnefja_open_header(enc, sizeof enc, mac, sizeof mac, file, SKRAPNEFJA_HEADER_SIZE, content_key,
-                                 sizeof content_key, &length, &reserved) == SKRAPNEFJA_DONE,
+    check(skrapnefja_open_header(SKRAPNEFJA_VAULT(club->vault), club->file, club->header_size, content_key, sizeof content_key,
+                                 &length, &reserved) == SKRAPNEFJA_DONE,
           "opening the header");
     check(length == SKRAPNEFJA_KEY_SIZE && content_key[0] == 4 && reserved == UINT64_MAX, "what the header says");
     printf("opened its header: reserved bytes %016" PRIx64 "\n", reserved);
 }
 
-static void read_ranges(void)
+static void read_ranges(const struct club_vault *club)
 {
     uint8_t out[24];
     uint64_t from = SKRAPNEFJA_CHUNK_SIZE - 8;
@@ -137,8 +212,8 @@ static void read_ranges(void)
     uint32_t row;
 
     memset(out, UNTOUCHED, sizeof out);
-    check(skrapnefja_read_range(enc, sizeof enc, mac, sizeof mac, file, sizeof file, from, 16, out, sizeof out, &length, &at)
-              == SKRAPNEFJA_DONE,
+    check(skrapnefja_read_range(SKRAPNEFJA_VAULT(club->vault), club->file, club->file_size, from, 16, out, sizeof out, &length,
+                                &at) == SKRAPNEFJA_DONE,
           "reading across the border of the chunks");
     check(length == 16 && at == 77 && memcmp(out, cleartext + from, 16) == 0, "bytes of the range");
     check(all_untouched(out + 16, sizeof out - 16), "bytes behind the range");
@@ -146,26 +221,36 @@ static void read_ranges(void)
 
     memset(out, UNTOUCHED, sizeof out);
     length = 99;
-    row = skrapnefja_read_range(enc, sizeof enc, mac, sizeof mac, file, sizeof file, UINT64_MAX, 1, out, sizeof out, &length,
-                                &at);
+    row = skrapnefja_read_range(SKRAPNEFJA_VAULT(club->vault), club->file, club->file_size, UINT64_MAX, 1, out, sizeof out,
+                                &length, &at);
     check(row == SKRAPNEFJA_RANGE, "range far outside");
     check(length == 99 && at == 77 && all_untouched(out, sizeof out), "a refusal changes nothing");
     printf("read 1 byte from %" PRIu64 " on: refused %" PRIu32 "\n", UINT64_MAX, row);
 }
 
-static void damage_the_second_chunk(void)
+static void damage_the_second_chunk(struct club_vault *club)
 {
     uint64_t length = 99;
     uint64_t at = 77;
     uint32_t row;
 
     memset(opened, UNTOUCHED, sizeof opened);
-    file[FILE_SIZE - 1] ^= 1;
-    row = skrapnefja_open_file(enc, sizeof enc, mac, sizeof mac, file, sizeof file, opened, sizeof opened, &length, &at);
-    file[FILE_SIZE - 1] ^= 1;
+    club->file[club->file_size - 1] ^= 1;
+    row = skrapnefja_open_file(SKRAPNEFJA_VAULT(club->vault), club->file, club->file_size, opened, sizeof opened, &length, &at);
+    club->file[club->file_size - 1] ^= 1;
     check(row == SKRAPNEFJA_CHUNK && at == 1, "damaged chunk");
     check(length == 99 && all_untouched(opened, sizeof opened), "no cleartext of a damaged file");
     printf("opened it damaged: refused %" PRIu32 " at %" PRIu64 "\n", row, at);
+}
+
+static void use_the_vault(struct club_vault *club, const struct club_vault *other)
+{
+    write_the_file(club);
+    open_the_file(club);
+    open_the_header(club);
+    read_ranges(club);
+    damage_the_second_chunk(club);
+    open_in_the_other_combo(club, other);
 }
 
 static void write_and_open_a_name(void)
@@ -180,14 +265,14 @@ static void write_and_open_a_name(void)
     uint64_t full_length = 99;
     uint64_t length = 0;
 
-    check(skrapnefja_write_name(enc, sizeof enc, mac, sizeof mac, root, 0, (const uint8_t *)name, name_size, stored,
-                                sizeof stored, full, sizeof full, &stored_length, &full_length) == SKRAPNEFJA_DONE,
+    check(skrapnefja_write_name(SKRAPNEFJA_VAULT(own.vault), root, 0, (const uint8_t *)name, name_size, stored, sizeof stored,
+                                full, sizeof full, &stored_length, &full_length) == SKRAPNEFJA_DONE,
           "writing the name");
     check(stored_length == 44 && full_length == 0, "lengths of the name");
     printf("stored %s as %.*s\n", name, (int)stored_length, (const char *)stored);
 
-    check(skrapnefja_open_name(enc, sizeof enc, mac, sizeof mac, root, 0, stored, (size_t)stored_length, out, sizeof out,
-                               &length) == SKRAPNEFJA_DONE,
+    check(skrapnefja_open_name(SKRAPNEFJA_VAULT(own.vault), root, 0, stored, (size_t)stored_length, out, sizeof out, &length)
+              == SKRAPNEFJA_DONE,
           "opening the name");
     check(length == name_size && memcmp(out, name, name_size) == 0, "the name");
     printf("opened it: %.*s\n", (int)length, (const char *)out);
@@ -205,8 +290,8 @@ static void refuse_a_stray_byte(void)
 
     memset(stored, UNTOUCHED, sizeof stored);
     memset(full, UNTOUCHED, sizeof full);
-    row = skrapnefja_write_name(enc, sizeof enc, mac, sizeof mac, enc, 0, name, sizeof name, stored, sizeof stored, full,
-                                sizeof full, &length, &full_length);
+    row = skrapnefja_write_name(SKRAPNEFJA_VAULT(own.vault), enc, 0, name, sizeof name, stored, sizeof stored, full, sizeof full,
+                                &length, &full_length);
     check(row == SKRAPNEFJA_NAME, "a name with a stray byte");
     check(length == 99 && full_length == 99 && all_untouched(stored, sizeof stored) && all_untouched(full, sizeof full),
           "nothing is stored for it");
@@ -229,13 +314,13 @@ static void write_and_open_a_long_name(void)
     for (i = 0; i < sizeof name; i++) {
         name[i] = letter[i % sizeof letter];
     }
-    check(skrapnefja_write_name(enc, sizeof enc, mac, sizeof mac, enc, 0, name, sizeof name, stored, sizeof stored, full,
-                                sizeof full, &stored_length, &full_length) == SKRAPNEFJA_DONE,
+    check(skrapnefja_write_name(SKRAPNEFJA_VAULT(own.vault), enc, 0, name, sizeof name, stored, sizeof stored, full, sizeof full,
+                                &stored_length, &full_length) == SKRAPNEFJA_DONE,
           "writing the long name");
     check(stored_length == 32 && full_length == 428, "lengths of the long name");
     printf("stored a name of 100 letters as %.*s\n", (int)stored_length, (const char *)stored);
 
-    check(skrapnefja_open_long_name(enc, sizeof enc, mac, sizeof mac, enc, 0, stored, (size_t)stored_length, full,
+    check(skrapnefja_open_long_name(SKRAPNEFJA_VAULT(own.vault), enc, 0, stored, (size_t)stored_length, full,
                                     (size_t)full_length, out, sizeof out, &length) == SKRAPNEFJA_DONE,
           "opening the long name");
     check(length == sizeof name && memcmp(out, name, sizeof name) == 0, "the long name");
@@ -245,11 +330,11 @@ static void write_and_open_a_long_name(void)
 int main(void)
 {
     unwrap_the_master_keys();
-    write_the_file();
-    open_the_file();
-    open_the_header();
-    read_ranges();
-    damage_the_second_chunk();
+    make_the_vault(&own);
+    make_the_vault(&older);
+    refuse_other_vaults();
+    use_the_vault(&own, &older);
+    use_the_vault(&older, &own);
     write_and_open_a_name();
     write_and_open_a_long_name();
     refuse_a_stray_byte();

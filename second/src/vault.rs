@@ -5,6 +5,7 @@
 //! when none of them applies. It gives the length of what it wrote; a buffer
 //! that is longer keeps its rest.
 
+mod bytes;
 mod chunk;
 mod cipher;
 mod combo;
@@ -21,6 +22,7 @@ mod samples;
 mod sizes;
 mod text;
 
+pub use bytes::{make_vault, VAULT_LEN};
 pub use combo::Combo;
 pub use lengths::{CHUNK_LEN, MAX_CLEARTEXT_LEN};
 pub use master_key::{unwrap_key, wrap_key};

@@ -1,7 +1,7 @@
-//! Unwraps a vault's master keys, writes a file and two names as it stores them,
-//! and reads them again.
+//! Unwraps a vault's master keys, writes a file in both combos and two names as
+//! the vault stores them, and reads them again.
 
-use skrapnefja::{Refusal, WrittenName, KEY_LEN, WRAPPED_KEY_LEN};
+use skrapnefja::{Combo, Refusal, Vault, WrittenName, KEY_LEN, WRAPPED_KEY_LEN};
 
 /// `primaryMasterKey` of `masterkey.cryptomator`.
 #[rustfmt::skip]
@@ -20,71 +20,28 @@ const HMAC_MASTER_KEY: [u8; WRAPPED_KEY_LEN] = [
     0x9e, 0x39, 0xc7, 0xf1, 0x21, 0xe0, 0x12, 0x68, 0x0e, 0xf3,
 ];
 
+/// What the file holds.
+const LOG: &[u8] = b"14:02 handset 7 takes train 12\n14:05 handset 7 stops train 12\n";
+
+/// For show only: a program draws one for each file from a random generator.
+const CONTENT_KEY: [u8; KEY_LEN] = [3; KEY_LEN];
+
 fn main() -> Result<(), Refusal> {
     let [enc, mac] = master_keys()?;
     assert_eq!([enc, mac], [[1; KEY_LEN], [2; KEY_LEN]]);
-    // Each file has its own random content key and nonces. These here are for
-    // show only.
-    let (content_key, header_nonce) = ([3; 32], [4; 12]);
+    // A club has an older vault beside its own. Here both are under the same
+    // master keys.
+    let vault = Vault::new(&enc, &mac, Combo::SivGcm)?;
+    let older = Vault::new(&enc, &mac, Combo::SivCtrmac)?;
 
-    let cleartext = b"14:02 handset 7 takes train 12\n14:05 handset 7 stops train 12\n";
-    let chunks = cleartext.len().div_ceil(skrapnefja::CHUNK_LEN);
-    let nonce = |i: usize| [[0; 4].as_slice(), &(i as u64).to_be_bytes()].concat();
-    let chunk_nonces: Vec<u8> = (0..chunks).flat_map(nonce).collect();
-
-    let mut file = vec![0; skrapnefja::file_length(cleartext.len() as u64)?];
-    skrapnefja::write_file(
-        &enc,
-        &mac,
-        &header_nonce,
-        &content_key,
-        &chunk_nonces,
-        cleartext,
-        &mut file,
-    )?;
-    println!("{} bytes are stored in {}", cleartext.len(), file.len());
-
-    let mut opened = vec![0; skrapnefja::cleartext_length(file.len() as u64)?];
-    skrapnefja::open_file(&enc, &mac, &file, &mut opened)?;
-    assert_eq!(opened, cleartext);
-    print!("opened:\n{}", String::from_utf8_lossy(&opened));
-
-    let (header, mut key) = (&file[..skrapnefja::HEADER_LEN], [0; 32]);
-    let opened = skrapnefja::open_header(&enc, &mac, header, &mut key)?;
-    assert_eq!(key, content_key);
-    println!("its header has the reserved bytes {:x?}", opened.reserved);
-
-    let mut part = [0; 9];
-    skrapnefja::read_range(&enc, &mac, &file, 6, 9, &mut part)?;
-    println!("bytes 6 to 14: {}", String::from_utf8_lossy(&part));
-
-    let outside = skrapnefja::read_range(&enc, &mac, &file, u64::MAX, 1, &mut part);
-    if let Err(refusal) = outside {
-        println!("past the end: row {}, {refusal}", refusal.row());
+    for (vault, other) in [(&vault, &older), (&older, &vault)] {
+        let file = written(vault)?;
+        read(vault, &file)?;
+        the_other_combo(other, &file)?;
     }
-
-    let mut path = [0; skrapnefja::PATH_LEN];
-    skrapnefja::dir_path(&enc, &mac, b"", &mut path)?;
-    let mut stored = [0; skrapnefja::MAX_STORED_LEN];
-    let mut full = [0; skrapnefja::MAX_FULL_LEN];
-    let written = skrapnefja::write_name(&enc, &mac, b"", b"log.txt", &mut stored, &mut full)?;
-    let WrittenName::Plain(length) = written else {
-        unreachable!("a name of up to 146 bytes is stored as it is");
-    };
-    let stored = &stored[..length];
-    println!(
-        "stored as {}/{}",
-        String::from_utf8_lossy(&path),
-        String::from_utf8_lossy(stored)
-    );
-
-    // An opened name is UTF-8.
-    let mut name = [0; skrapnefja::MAX_NAME_LEN];
-    let length = skrapnefja::open_name(&enc, &mac, b"", stored, &mut name)?;
-    let name = std::str::from_utf8(&name[..length]).expect("proper text");
-    println!("which is {name}");
-    stray_byte(&enc, &mac);
-    long_name(&enc, &mac)
+    name(&vault)?;
+    stray_byte(&vault);
+    long_name(&vault)
 }
 
 /// The master keys, under the key-encryption key that a real program gets from
@@ -104,21 +61,94 @@ fn master_keys() -> Result<[[u8; KEY_LEN]; 2], Refusal> {
     Ok([enc, mac])
 }
 
-/// A name that is not UTF-8 is refused, and nothing is stored.
-fn stray_byte(enc: &[u8], mac: &[u8]) {
+/// The file of the log. Its nonces are for show only, as the content key is.
+fn written(vault: &Vault) -> Result<Vec<u8>, Refusal> {
+    let nonce_len = vault.combo().nonce_len();
+    let header_nonce = vec![4; nonce_len];
+    let chunks = LOG.len().div_ceil(skrapnefja::CHUNK_LEN);
+    let chunk_nonces: Vec<u8> = (0..chunks).flat_map(|i| vec![i as u8; nonce_len]).collect();
+
+    let mut file = vec![0; vault.file_length(LOG.len() as u64)?];
+    vault.write_file(&header_nonce, &CONTENT_KEY, &chunk_nonces, LOG, &mut file)?;
+    let combo = vault.combo();
+    println!(
+        "{combo:?}: {} bytes are stored in {}",
+        LOG.len(),
+        file.len()
+    );
+    Ok(file)
+}
+
+/// The file whole, its header, and a part of it.
+fn read(vault: &Vault, file: &[u8]) -> Result<(), Refusal> {
+    let mut opened = vec![0; vault.cleartext_length(file.len() as u64)?];
+    vault.open_file(file, &mut opened)?;
+    assert_eq!(opened, LOG);
+    print!("opened:\n{}", String::from_utf8_lossy(&opened));
+
+    let (header, mut key) = (&file[..vault.combo().header_len()], [0; KEY_LEN]);
+    let opened = vault.open_header(header, &mut key)?;
+    assert_eq!(key, CONTENT_KEY);
+    println!("its header has the reserved bytes {:x?}", opened.reserved);
+
+    let mut part = [0; 9];
+    vault.read_range(file, 6, 9, &mut part)?;
+    println!("bytes 6 to 14: {}", String::from_utf8_lossy(&part));
+
+    let outside = vault.read_range(file, u64::MAX, 1, &mut part);
+    assert_eq!(outside, Err(Refusal::Range));
+    println!("past the end: row 6, {}", Refusal::Range);
+    Ok(())
+}
+
+/// A file does not open in a vault of the other combo. Where its length is that
+/// of some file there, as here, its header is not genuine.
+fn the_other_combo(other: &Vault, file: &[u8]) -> Result<(), Refusal> {
+    let mut out = vec![0; other.cleartext_length(file.len() as u64)?];
+    assert_eq!(other.open_file(file, &mut out), Err(Refusal::Header));
+    println!("as {:?}: row 9, {}", other.combo(), Refusal::Header);
+    Ok(())
+}
+
+fn name(vault: &Vault) -> Result<(), Refusal> {
+    let mut path = [0; skrapnefja::PATH_LEN];
+    vault.dir_path(b"", &mut path)?;
     let mut stored = [0; skrapnefja::MAX_STORED_LEN];
-    let written = skrapnefja::write_name(enc, mac, b"", b"log\xff", &mut stored, &mut []);
+    let mut full = [0; skrapnefja::MAX_FULL_LEN];
+    let written = vault.write_name(b"", b"log.txt", &mut stored, &mut full)?;
+    let WrittenName::Plain(length) = written else {
+        unreachable!("a name of up to 146 bytes is stored as it is");
+    };
+    let stored = &stored[..length];
+    println!(
+        "stored as {}/{}",
+        String::from_utf8_lossy(&path),
+        String::from_utf8_lossy(stored)
+    );
+
+    // An opened name is UTF-8.
+    let mut name = [0; skrapnefja::MAX_NAME_LEN];
+    let length = vault.open_name(b"", stored, &mut name)?;
+    let name = std::str::from_utf8(&name[..length]).expect("proper text");
+    println!("which is {name}");
+    Ok(())
+}
+
+/// A name that is not UTF-8 is refused, and nothing is stored.
+fn stray_byte(vault: &Vault) {
+    let mut stored = [0; skrapnefja::MAX_STORED_LEN];
+    let written = vault.write_name(b"", b"log\xff", &mut stored, &mut []);
     assert_eq!((written, stored), (Err(Refusal::Name), [0; 220]));
     println!("log\\xff: row 3, {}", Refusal::Name);
 }
 
 /// A long name is stored as its hash name. Its full name is kept beside that,
 /// and both are needed to open it.
-fn long_name(enc: &[u8], mac: &[u8]) -> Result<(), Refusal> {
+fn long_name(vault: &Vault) -> Result<(), Refusal> {
     let name = "\u{10d0}".repeat(100);
     let mut stored = [0; skrapnefja::MAX_STORED_LEN];
     let mut full = [0; skrapnefja::MAX_FULL_LEN];
-    let written = skrapnefja::write_name(enc, mac, b"", name.as_bytes(), &mut stored, &mut full)?;
+    let written = vault.write_name(b"", name.as_bytes(), &mut stored, &mut full)?;
     let WrittenName::Shortened { stored: s, full: f } = written else {
         unreachable!("the full name of 300 bytes has more than 220 characters");
     };
@@ -130,7 +160,7 @@ fn long_name(enc: &[u8], mac: &[u8]) -> Result<(), Refusal> {
     );
 
     let mut opened = [0; skrapnefja::MAX_NAME_LEN];
-    let length = skrapnefja::open_long_name(enc, mac, b"", stored, full, &mut opened)?;
+    let length = vault.open_long_name(b"", stored, full, &mut opened)?;
     assert_eq!(&opened[..length], name.as_bytes());
     Ok(())
 }

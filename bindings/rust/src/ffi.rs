@@ -7,11 +7,20 @@
 //! that is passed.
 
 extern "C" {
-    pub fn skrapnefja_write_header(
+    pub fn skrapnefja_make_vault(
         enc: *const u8,
         enc_len: usize,
         mac: *const u8,
         mac_len: usize,
+        combo: u32,
+        out: *mut u8,
+        out_len: usize,
+        length: *mut u64,
+    ) -> u32;
+
+    pub fn skrapnefja_write_header(
+        vault: *const u8,
+        vault_len: usize,
         nonce: *const u8,
         nonce_len: usize,
         content_key: *const u8,
@@ -22,10 +31,8 @@ extern "C" {
     ) -> u32;
 
     pub fn skrapnefja_open_header(
-        enc: *const u8,
-        enc_len: usize,
-        mac: *const u8,
-        mac_len: usize,
+        vault: *const u8,
+        vault_len: usize,
         header: *const u8,
         header_len: usize,
         out: *mut u8,
@@ -35,6 +42,8 @@ extern "C" {
     ) -> u32;
 
     pub fn skrapnefja_write_chunk(
+        vault: *const u8,
+        vault_len: usize,
         content_key: *const u8,
         content_key_len: usize,
         header_nonce: *const u8,
@@ -50,6 +59,8 @@ extern "C" {
     ) -> u32;
 
     pub fn skrapnefja_open_chunk(
+        vault: *const u8,
+        vault_len: usize,
         content_key: *const u8,
         content_key_len: usize,
         header_nonce: *const u8,
@@ -64,10 +75,8 @@ extern "C" {
     ) -> u32;
 
     pub fn skrapnefja_write_file(
-        enc: *const u8,
-        enc_len: usize,
-        mac: *const u8,
-        mac_len: usize,
+        vault: *const u8,
+        vault_len: usize,
         header_nonce: *const u8,
         header_nonce_len: usize,
         content_key: *const u8,
@@ -82,10 +91,8 @@ extern "C" {
     ) -> u32;
 
     pub fn skrapnefja_open_file(
-        enc: *const u8,
-        enc_len: usize,
-        mac: *const u8,
-        mac_len: usize,
+        vault: *const u8,
+        vault_len: usize,
         file: *const u8,
         file_len: usize,
         out: *mut u8,
@@ -95,10 +102,8 @@ extern "C" {
     ) -> u32;
 
     pub fn skrapnefja_read_range(
-        enc: *const u8,
-        enc_len: usize,
-        mac: *const u8,
-        mac_len: usize,
+        vault: *const u8,
+        vault_len: usize,
         file: *const u8,
         file_len: usize,
         from: u64,
@@ -110,10 +115,8 @@ extern "C" {
     ) -> u32;
 
     pub fn skrapnefja_write_name(
-        enc: *const u8,
-        enc_len: usize,
-        mac: *const u8,
-        mac_len: usize,
+        vault: *const u8,
+        vault_len: usize,
         dir_id: *const u8,
         dir_id_len: usize,
         name: *const u8,
@@ -127,10 +130,8 @@ extern "C" {
     ) -> u32;
 
     pub fn skrapnefja_open_name(
-        enc: *const u8,
-        enc_len: usize,
-        mac: *const u8,
-        mac_len: usize,
+        vault: *const u8,
+        vault_len: usize,
         dir_id: *const u8,
         dir_id_len: usize,
         stored: *const u8,
@@ -141,10 +142,8 @@ extern "C" {
     ) -> u32;
 
     pub fn skrapnefja_open_long_name(
-        enc: *const u8,
-        enc_len: usize,
-        mac: *const u8,
-        mac_len: usize,
+        vault: *const u8,
+        vault_len: usize,
         dir_id: *const u8,
         dir_id_len: usize,
         stored: *const u8,
@@ -157,10 +156,8 @@ extern "C" {
     ) -> u32;
 
     pub fn skrapnefja_dir_path(
-        enc: *const u8,
-        enc_len: usize,
-        mac: *const u8,
-        mac_len: usize,
+        vault: *const u8,
+        vault_len: usize,
         dir_id: *const u8,
         dir_id_len: usize,
         out: *mut u8,
@@ -168,9 +165,19 @@ extern "C" {
         length: *mut u64,
     ) -> u32;
 
-    pub fn skrapnefja_file_length(cleartext_length: u64, length: *mut u64) -> u32;
+    pub fn skrapnefja_file_length(
+        vault: *const u8,
+        vault_len: usize,
+        cleartext_length: u64,
+        length: *mut u64,
+    ) -> u32;
 
-    pub fn skrapnefja_cleartext_length(file_length: u64, length: *mut u64) -> u32;
+    pub fn skrapnefja_cleartext_length(
+        vault: *const u8,
+        vault_len: usize,
+        file_length: u64,
+        length: *mut u64,
+    ) -> u32;
 
     pub fn skrapnefja_wrap_key(
         kek: *const u8,

@@ -1,28 +1,36 @@
-//! Reads and writes Cryptomator vaults (vault format 8, cipher combo SIV_GCM)
-//! by `libskrapnefja.a`, whose functions are proved to meet their contracts.
+//! Reads and writes Cryptomator vaults (vault format 8, cipher combos SIV_GCM
+//! and SIV_CTRMAC) by `libskrapnefja.a`, whose functions are proved to meet
+//! their contracts.
 //!
 //! Every function takes any bytes at all, comes back, and either writes its
 //! whole answer to the start of the buffer and gives its length, or gives a
 //! [`Refusal`] and changes no byte. A buffer that is longer than the answer
 //! keeps its rest. There is no state, and nothing is allocated.
 //!
-//! `enc` and `mac` are the two master keys of the vault, 32 bytes each, which
-//! [`unwrap_key`] unwraps from the values in `masterkey.cryptomator`. Nonces
-//! are 12 bytes; they and the content key of a file are the caller's to choose
-//! at random, and never to use twice.
+//! A [`Vault`] is made of the two master keys of the vault, `enc` and `mac`, 32
+//! bytes each, which [`unwrap_key`] unwraps from the values in
+//! `masterkey.cryptomator`, and of its [`Combo`]. Its methods are the calls.
+//!
+//! Nonces have [`Combo::nonce_len`] bytes. They and the content key of a file
+//! are the caller's to choose at random, and never to use twice: GCM is broken
+//! by a nonce that is used twice under one key. In SIV_CTRMAC the counter
+//! starts at the nonce, so a repeated nonce repeats the keystream, and a nonce
+//! that is a little higher than another repeats a part of it.
 //!
 //! ```
-//! use skrapnefja::{cleartext_length, open_file, Refusal};
+//! use skrapnefja::{Combo, Refusal, Vault};
 //!
-//! fn read(enc: &[u8], mac: &[u8], file: &[u8]) -> Result<Vec<u8>, Refusal> {
-//!     let mut cleartext = vec![0; cleartext_length(file.len() as u64)?];
-//!     open_file(enc, mac, file, &mut cleartext)?;
+//! fn read(vault: &Vault, file: &[u8]) -> Result<Vec<u8>, Refusal> {
+//!     let mut cleartext = vec![0; vault.cleartext_length(file.len() as u64)?];
+//!     vault.open_file(file, &mut cleartext)?;
 //!     Ok(cleartext)
 //! }
 //!
-//! let refusal = read(&[0; 32], &[0; 32], b"not a file").unwrap_err();
+//! let vault = Vault::new(&[0; 32], &[0; 32], Combo::SivGcm)?;
+//! let refusal = read(&vault, b"not a file").unwrap_err();
 //! assert_eq!(refusal, Refusal::Length);
 //! assert_eq!(refusal.row(), 4);
+//! # Ok::<(), Refusal>(())
 //! ```
 //!
 //! `examples/vault.rs` shows more of it. The library is looked for in
@@ -33,21 +41,23 @@
 #![warn(missing_docs)]
 
 mod call;
-mod content;
+mod chunk;
+mod combo;
 #[allow(missing_docs)]
 pub mod ffi;
+mod file;
+mod header;
 mod keys;
+mod lengths;
 mod names;
 mod refusal;
+mod vault;
 
-pub use content::{
-    cleartext_length, file_length, open_chunk, open_file, open_header, read_range, write_chunk,
-    write_file, write_header, OpenedHeader, CHUNK_LEN, CHUNK_OVERHEAD, HEADER_LEN,
-    MAX_CLEARTEXT_LEN,
-};
+pub use chunk::CHUNK_LEN;
+pub use combo::Combo;
+pub use header::OpenedHeader;
 pub use keys::{unwrap_key, wrap_key, KEY_LEN, WRAPPED_KEY_LEN};
-pub use names::{
-    dir_path, open_long_name, open_name, write_name, WrittenName, MAX_FULL_LEN, MAX_NAME_LEN,
-    MAX_STORED_LEN, PATH_LEN,
-};
+pub use lengths::MAX_CLEARTEXT_LEN;
+pub use names::{WrittenName, MAX_FULL_LEN, MAX_NAME_LEN, MAX_STORED_LEN, PATH_LEN};
 pub use refusal::Refusal;
+pub use vault::{Vault, VAULT_LEN};

@@ -1,7 +1,8 @@
-//! Names of entries, and paths of directories.
+//! Names of entries, and paths of directories. Both are the same in either
+//! combo.
 
 use crate::call::{done, safely};
-use crate::Refusal;
+use crate::{Refusal, Vault};
 
 /// The longest name, in bytes.
 pub const MAX_NAME_LEN: usize = 1020;
@@ -29,67 +30,66 @@ pub enum WrittenName {
     },
 }
 
-/// Encrypts a name, which is proper text: well-formed UTF-8 without a zero byte
-/// and without '/'. That it is in Normalization Form C is the caller's to see
-/// to. The stored name goes to `stored`; if it is shortened, the full name goes
-/// to `full`, which otherwise stays and may be empty. Buffers of
-/// [`MAX_STORED_LEN`] and [`MAX_FULL_LEN`] bytes have room for any name. Refused
-/// with rows 1, 2, 3 and 7.
-pub fn write_name(
-    enc: &[u8],
-    mac: &[u8],
-    dir_id: &[u8],
-    name: &[u8],
-    stored: &mut [u8],
-    full: &mut [u8],
-) -> Result<WrittenName, Refusal> {
-    let (mut length, mut full_length) = (0, 0);
-    let status = safely!(skrapnefja_write_name:
-        in enc, in mac, in dir_id, in name, out stored, out full, set length, set full_length,);
-    let stored = done(status, length, 0)?;
-    Ok(match full_length as usize {
-        0 => WrittenName::Plain(stored),
-        full => WrittenName::Shortened { stored, full },
-    })
-}
+impl Vault {
+    /// Encrypts a name, which is proper text: well-formed UTF-8 without a zero
+    /// byte and without '/'. That it is in Normalization Form C is the caller's
+    /// to see to. The stored name goes to `stored`; if it is shortened, the full
+    /// name goes to `full`, which otherwise stays and may be empty. Buffers of
+    /// [`MAX_STORED_LEN`] and [`MAX_FULL_LEN`] bytes have room for any name.
+    /// Refused with rows 2, 3 and 7.
+    pub fn write_name(
+        &self,
+        dir_id: &[u8],
+        name: &[u8],
+        stored: &mut [u8],
+        full: &mut [u8],
+    ) -> Result<WrittenName, Refusal> {
+        let (vault, mut length, mut full_length) = (&self.bytes, 0, 0);
+        let status = safely!(skrapnefja_write_name:
+            in vault, in dir_id, in name, out stored, out full, set length, set full_length,);
+        let stored = done(status, length, 0)?;
+        Ok(match full_length as usize {
+            0 => WrittenName::Plain(stored),
+            full => WrittenName::Shortened { stored, full },
+        })
+    }
 
-/// Writes the name of a stored full name, and gives its length. What is written
-/// is UTF-8. A buffer of [`MAX_NAME_LEN`] bytes has room for any name. Refused
-/// with rows 1, 2, 5, 7, 12 and then 3.
-pub fn open_name(
-    enc: &[u8],
-    mac: &[u8],
-    dir_id: &[u8],
-    stored: &[u8],
-    out: &mut [u8],
-) -> Result<usize, Refusal> {
-    let mut length = 0;
-    let status = safely!(skrapnefja_open_name:
-        in enc, in mac, in dir_id, in stored, out out, set length,);
-    done(status, length, 0)
-}
+    /// Writes the name of a stored full name, and gives its length. What is
+    /// written is UTF-8. A buffer of [`MAX_NAME_LEN`] bytes has room for any
+    /// name. Refused with rows 2, 5, 7, 12 and then 3.
+    pub fn open_name(
+        &self,
+        dir_id: &[u8],
+        stored: &[u8],
+        out: &mut [u8],
+    ) -> Result<usize, Refusal> {
+        let (vault, mut length) = (&self.bytes, 0);
+        let status = safely!(skrapnefja_open_name:
+            in vault, in dir_id, in stored, out out, set length,);
+        done(status, length, 0)
+    }
 
-/// Writes the name with this stored and this full name, and gives its length.
-/// What is written is UTF-8. A buffer of [`MAX_NAME_LEN`] bytes has room for any
-/// name. Refused with rows 1, 2, 5, 7, 11, 12 and then 3.
-pub fn open_long_name(
-    enc: &[u8],
-    mac: &[u8],
-    dir_id: &[u8],
-    stored: &[u8],
-    full: &[u8],
-    out: &mut [u8],
-) -> Result<usize, Refusal> {
-    let mut length = 0;
-    let status = safely!(skrapnefja_open_long_name:
-        in enc, in mac, in dir_id, in stored, in full, out out, set length,);
-    done(status, length, 0)
-}
+    /// Writes the name with this stored and this full name, and gives its
+    /// length. What is written is UTF-8. A buffer of [`MAX_NAME_LEN`] bytes has
+    /// room for any name. Refused with rows 2, 5, 7, 11, 12 and then 3.
+    pub fn open_long_name(
+        &self,
+        dir_id: &[u8],
+        stored: &[u8],
+        full: &[u8],
+        out: &mut [u8],
+    ) -> Result<usize, Refusal> {
+        let (vault, mut length) = (&self.bytes, 0);
+        let status = safely!(skrapnefja_open_long_name:
+            in vault, in dir_id, in stored, in full, out out, set length,);
+        done(status, length, 0)
+    }
 
-/// Writes the path of the directory with this ID below the vault's root, 36
-/// bytes, and gives their number. Refused with rows 1, 2 and 7.
-pub fn dir_path(enc: &[u8], mac: &[u8], dir_id: &[u8], out: &mut [u8]) -> Result<usize, Refusal> {
-    let mut length = 0;
-    let status = safely!(skrapnefja_dir_path: in enc, in mac, in dir_id, out out, set length,);
-    done(status, length, 0)
+    /// Writes the path of the directory with this ID below the vault's root, 36
+    /// bytes, and gives their number. Refused with rows 2 and 7.
+    pub fn dir_path(&self, dir_id: &[u8], out: &mut [u8]) -> Result<usize, Refusal> {
+        let (vault, mut length) = (&self.bytes, 0);
+        let status = safely!(skrapnefja_dir_path: in vault, in dir_id, out out, set length,);
+        done(status, length, 0)
+    }
 }

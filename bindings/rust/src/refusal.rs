@@ -8,8 +8,8 @@ use std::fmt::{self, Display, Formatter};
 /// changed no buffer.
 #[derive(Clone, Copy, Debug, PartialEq, Eq, Hash)]
 pub enum Refusal {
-    /// Row 1: a key is not 32 bytes, a nonce is not 12, or there are not 12
-    /// bytes of nonces for each chunk.
+    /// Row 1: a key is not 32 bytes, a nonce is not 12 in SIV_GCM or 16 in
+    /// SIV_CTRMAC, or there is not one nonce for each chunk.
     KeyOrNonceSize,
     /// Row 2: the directory ID has more than 36 bytes, or one of 128 or more.
     DirectoryId,
@@ -18,9 +18,11 @@ pub enum Refusal {
     /// gives it, once the synthetic IV was found right, where the sealed bytes
     /// are not proper text.
     Name,
-    /// Row 4: no file has this length, or the cleartext is over 16,777,216
-    /// bytes; a header is not 68 bytes; a chunk's cleartext is not 1 to 32,768
-    /// bytes, or its stored form not 29 to 32,796; a wrapped key is not 40.
+    /// Row 4: no file of the combo has this length, or the cleartext is over
+    /// 16,777,216 bytes; a header is not 68 bytes in SIV_GCM or 88 in
+    /// SIV_CTRMAC; a chunk's cleartext is not 1 to 32,768 bytes, or its stored
+    /// form not 29 to 32,796 in SIV_GCM or 49 to 32,816 in SIV_CTRMAC; a wrapped
+    /// key is not 40.
     Length,
     /// Row 5: the text of the (full) name is broken, or over 220 characters
     /// where the name is stored as it is.
@@ -31,9 +33,9 @@ pub enum Refusal {
     Room,
     /// Row 8: two chunks to write have the same nonce.
     RepeatedNonce,
-    /// Row 9: the header's tag is wrong.
+    /// Row 9: the header's tag (SIV_GCM) or MAC (SIV_CTRMAC) is wrong.
     Header,
-    /// Row 10: the tag of this chunk is wrong, and it is the lowest such
+    /// Row 10: the tag or MAC of this chunk is wrong, and it is the lowest such
     /// number of the chunks that the call needs.
     Chunk(u64),
     /// Row 11: the full name has 220 characters or fewer, or the stored name
@@ -41,13 +43,16 @@ pub enum Refusal {
     HashName,
     /// Row 12: the synthetic IV doesn't match.
     SyntheticIv,
+    /// Row 17: the combo is neither SIV_GCM nor SIV_CTRMAC. No function of this
+    /// crate gives it, since a [`Combo`](crate::Combo) is one of the two.
+    Combo,
     /// Row 20: the check value of a wrapped key is wrong, as another
     /// key-encryption key (a mistyped password) or damage can cause.
     CheckValue,
 }
 
 impl Refusal {
-    /// The row of the table of refusals: 1 to 12, or 20.
+    /// The row of the table of refusals: 1 to 12, 17 or 20.
     pub fn row(self) -> u32 {
         match self {
             Refusal::KeyOrNonceSize => 1,
@@ -62,6 +67,7 @@ impl Refusal {
             Refusal::Chunk(_) => 10,
             Refusal::HashName => 11,
             Refusal::SyntheticIv => 12,
+            Refusal::Combo => 17,
             Refusal::CheckValue => 20,
         }
     }
@@ -81,6 +87,7 @@ impl Refusal {
             10 => Refusal::Chunk(at),
             11 => Refusal::HashName,
             12 => Refusal::SyntheticIv,
+            17 => Refusal::Combo,
             20 => Refusal::CheckValue,
             _ => unreachable!("the library has no row {row}"),
         }
@@ -102,6 +109,7 @@ impl Display for Refusal {
             Refusal::Chunk(number) => return write!(f, "chunk {number} is not genuine"),
             Refusal::HashName => "the full name does not belong to the stored name",
             Refusal::SyntheticIv => "the name is not genuine",
+            Refusal::Combo => "the combo is neither SIV_GCM nor SIV_CTRMAC",
             Refusal::CheckValue => "the wrapped key is not genuine",
         })
     }
@@ -113,7 +121,7 @@ impl Error for Refusal {}
 mod tests {
     use super::*;
 
-    const ROWS: [u32; 13] = [1, 2, 3, 4, 5, 6, 7, 8, 9, 10, 11, 12, 20];
+    const ROWS: [u32; 14] = [1, 2, 3, 4, 5, 6, 7, 8, 9, 10, 11, 12, 17, 20];
 
     #[test]
     fn rows() {

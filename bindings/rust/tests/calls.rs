@@ -1,11 +1,12 @@
-//! Each function once with success, and once with each of its rows.
+//! Each function once with success, and once with each of its rows, in both
+//! combos.
 
 use skrapnefja::*;
 
+const COMBOS: [Combo; 2] = [Combo::SivGcm, Combo::SivCtrmac];
 const ENC: [u8; 32] = [1; 32];
 const MAC: [u8; 32] = [2; 32];
 const CONTENT_KEY: [u8; 32] = [3; 32];
-const NONCE: [u8; 12] = [4; 12];
 const ID: &[u8] = b"e9250eb8-078d-4fc0-8835-be92a313360c";
 
 /// The bytes of a buffer before a call.
@@ -30,33 +31,34 @@ fn done(len: usize, call: impl FnOnce(&mut [u8]) -> Result<usize, Refusal>) -> V
     out
 }
 
-fn header() -> Vec<u8> {
-    done(68, |out| {
-        write_header(&ENC, &MAC, &NONCE, &CONTENT_KEY, out)
+fn vault(combo: Combo) -> Vault {
+    Vault::new(&ENC, &MAC, combo).expect("two keys")
+}
+
+fn nonce(vault: &Vault) -> Vec<u8> {
+    vec![4; vault.combo().nonce_len()]
+}
+
+/// A file of up to 256 chunks.
+fn file(vault: &Vault, cleartext: &[u8]) -> Vec<u8> {
+    let chunks = 0..cleartext.len().div_ceil(CHUNK_LEN);
+    let nonces = chunks.map(|i| vec![i as u8; vault.combo().nonce_len()]);
+    let nonces = nonces.collect::<Vec<_>>().concat();
+    let length = vault.file_length(cleartext.len() as u64);
+    done(length.expect("within the limit"), |out| {
+        vault.write_file(&nonce(vault), &CONTENT_KEY, &nonces, cleartext, out)
     })
 }
 
-fn chunk(number: u64, cleartext: &[u8]) -> Vec<u8> {
-    done(cleartext.len() + CHUNK_OVERHEAD, |out| {
-        write_chunk(&CONTENT_KEY, &NONCE, number, &[9; 12], cleartext, out)
-    })
-}
-
-/// A cleartext of two chunks, and its file.
-fn file() -> (Vec<u8>, Vec<u8>) {
-    let cleartext: Vec<_> = (0..CHUNK_LEN + 10).map(|i| i as u8).collect();
-    let nonces: Vec<_> = (0..24).collect();
-    let length = file_length(cleartext.len() as u64).expect("within the limit");
-    let file = done(length, |out| {
-        write_file(&ENC, &MAC, &NONCE, &CONTENT_KEY, &nonces, &cleartext, out)
-    });
-    (cleartext, file)
+/// A cleartext of two chunks, the second of 10 bytes.
+fn two_chunks() -> Vec<u8> {
+    (0..CHUNK_LEN + 10).map(|i| i as u8).collect()
 }
 
 /// The stored and the full name. For a plain name the latter is empty.
-fn written(name: &[u8]) -> (Vec<u8>, Vec<u8>) {
+fn written(vault: &Vault, name: &[u8]) -> (Vec<u8>, Vec<u8>) {
     let (mut stored, mut full) = (vec![OLD; MAX_STORED_LEN], vec![OLD; MAX_FULL_LEN]);
-    let written = write_name(&ENC, &MAC, ID, name, &mut stored, &mut full);
+    let written = vault.write_name(ID, name, &mut stored, &mut full);
     let (stored_len, full_len) = match written.expect("a name") {
         WrittenName::Plain(stored) => (stored, 0),
         WrittenName::Shortened { stored, full } => (stored, full),
@@ -74,31 +76,20 @@ fn flipped(bytes: &[u8], place: usize) -> Vec<u8> {
 }
 
 #[test]
-fn headers() {
-    let header = header();
-    let key = done(32, |out| {
-        let opened = open_header(&ENC, &MAC, &header, out)?;
-        assert_eq!(opened.reserved, [0xff; 8]);
-        Ok(opened.length)
-    });
-    assert_eq!(key, CONTENT_KEY);
+fn vaults() {
+    for combo in COMBOS {
+        let vault = vault(combo).clone();
+        assert_eq!(vault.combo(), combo);
+        assert_eq!(
+            format!("{vault:?}"),
+            format!("Vault {{ combo: {combo:?}, .. }}")
+        );
 
-    let write = |mac: &[u8], len| {
-        refused(len, |out| {
-            write_header(&ENC, mac, &NONCE, &CONTENT_KEY, out)
-        })
-        .row()
-    };
-    assert_eq!(write(&[2; 31], 68), 1);
-    assert_eq!(write(&MAC, 67), 7);
-
-    let open = |mac: &[u8], header: &[u8], len| {
-        refused(len, |out| open_header(&ENC, mac, header, out)).row()
-    };
-    assert_eq!(open(&[], &header, 32), 1);
-    assert_eq!(open(&MAC, &header[1..], 32), 4);
-    assert_eq!(open(&MAC, &header, 31), 7);
-    assert_eq!(open(&MAC, &flipped(&header, 20), 32), 9);
+        let new = |enc: &[u8], mac: &[u8]| Vault::new(enc, mac, combo).expect_err("a size");
+        assert_eq!(new(&ENC[1..], &MAC), Refusal::KeyOrNonceSize);
+        assert_eq!(new(&ENC, &MAC[1..]), Refusal::KeyOrNonceSize);
+        assert_eq!(new(&[1; 33], &[]), Refusal::KeyOrNonceSize);
+    }
 }
 
 #[test]
@@ -123,10 +114,38 @@ fn keys() {
     assert_eq!(unwrap(&key, &wrapped, 32), Refusal::CheckValue);
 }
 
-/// A header with reserved bytes that all differ, under keys 0, 1, .. and 32,
+#[test]
+fn headers() {
+    for combo in COMBOS {
+        let (vault, len) = (vault(combo), combo.header_len());
+        let nonce = nonce(&vault);
+        let header = done(len, |out| vault.write_header(&nonce, &CONTENT_KEY, out));
+        assert!(header.starts_with(&nonce));
+        let key = done(32, |out| {
+            let opened = vault.open_header(&header, out)?;
+            assert_eq!(opened.reserved, [0xff; 8]);
+            Ok(opened.length)
+        });
+        assert_eq!(key, CONTENT_KEY);
+
+        let write = |nonce: &[u8], key: &[u8], len| {
+            refused(len, |out| vault.write_header(nonce, key, out)).row()
+        };
+        assert_eq!(write(&nonce[1..], &CONTENT_KEY, len), 1);
+        assert_eq!(write(&nonce, &CONTENT_KEY[1..], len), 1);
+        assert_eq!(write(&nonce, &CONTENT_KEY, len - 1), 7);
+
+        let open = |header: &[u8], len| refused(len, |out| vault.open_header(header, out)).row();
+        assert_eq!(open(&header[1..], 32), 4);
+        assert_eq!(open(&header, 31), 7);
+        assert_eq!(open(&flipped(&header, 20), 32), 9);
+    }
+}
+
+/// Headers with reserved bytes that all differ, under keys 0, 1, .. and 32,
 /// 33, ..
 #[rustfmt::skip]
-const RESERVED: [u8; HEADER_LEN] = [
+const RESERVED_GCM: [u8; Combo::SivGcm.header_len()] = [
     0xa0, 0xa1, 0xa2, 0xa3, 0xa4, 0xa5, 0xa6, 0xa7, 0xa8, 0xa9, 0xaa, 0xab,
     0x67, 0x9a, 0xff, 0xa9, 0xc0, 0x4d, 0x85, 0x37, 0x22, 0x24, 0xc5, 0x90,
     0x43, 0x3f, 0x86, 0x99, 0x38, 0xe5, 0x13, 0x5b, 0xde, 0xfa, 0x0c, 0x23,
@@ -134,161 +153,217 @@ const RESERVED: [u8; HEADER_LEN] = [
     0xf3, 0x7f, 0x0d, 0x62, 0x6f, 0x1b, 0xad, 0x30, 0xe9, 0x4f, 0x48, 0x69,
     0x5a, 0xdd, 0x45, 0x79, 0x78, 0x99, 0x94, 0xd4,
 ];
+#[rustfmt::skip]
+const RESERVED_CTRMAC: [u8; Combo::SivCtrmac.header_len()] = [
+    0xa0, 0xa1, 0xa2, 0xa3, 0xa4, 0xa5, 0xa6, 0xa7, 0xa8, 0xa9, 0xaa, 0xab,
+    0xac, 0xad, 0xae, 0xaf, 0x5d, 0x1d, 0x82, 0x79, 0xf3, 0x3e, 0xfb, 0x85,
+    0x4f, 0x0a, 0xaa, 0xc6, 0x4f, 0x4e, 0xaa, 0xa7, 0xa9, 0x98, 0xa1, 0x5a,
+    0x30, 0x0c, 0xdb, 0x67, 0xbc, 0xdb, 0xaa, 0xd9, 0x33, 0x65, 0x85, 0xc8,
+    0xc1, 0xb2, 0xbe, 0xf9, 0xb4, 0x3a, 0xc7, 0x55, 0xf0, 0xed, 0x11, 0x4a,
+    0xa4, 0x80, 0xef, 0x8e, 0x30, 0xf6, 0xe1, 0x23, 0x5a, 0x86, 0x33, 0xea,
+    0x94, 0xe0, 0xa7, 0xc0, 0xab, 0xc2, 0xa7, 0x32, 0xe9, 0x67, 0x55, 0xd5,
+    0x7e, 0x2d, 0x18, 0xf7,
+];
 
 #[test]
 fn reserved_bytes() {
     let (enc, mac): (Vec<_>, Vec<_>) = ((0..32).collect(), (32..64).collect());
-    let mut key = [OLD; 32];
-    let opened = open_header(&enc, &mac, &RESERVED, &mut key).expect("a right tag");
-    assert_eq!(opened.length, 32);
-    assert_eq!(
-        opened.reserved,
-        [0x81, 0x82, 0x83, 0x84, 0x85, 0x86, 0x87, 0x88]
-    );
-    assert!(key.into_iter().eq(0x40..0x60));
+    for (combo, header) in COMBOS
+        .into_iter()
+        .zip([&RESERVED_GCM[..], &RESERVED_CTRMAC])
+    {
+        let vault = Vault::new(&enc, &mac, combo).expect("two keys");
+        let mut key = [OLD; 32];
+        let opened = vault.open_header(header, &mut key).expect("a right tag");
+        assert_eq!(opened.length, 32);
+        assert_eq!(
+            opened.reserved,
+            [0x81, 0x82, 0x83, 0x84, 0x85, 0x86, 0x87, 0x88]
+        );
+        assert!(key.into_iter().eq(0x40..0x60));
+    }
 }
 
 #[test]
 fn chunks() {
-    let chunk = chunk(u64::MAX, b"hello");
-    let cleartext = done(5, |out| {
-        open_chunk(&CONTENT_KEY, &NONCE, u64::MAX, &chunk, out)
-    });
-    assert_eq!(cleartext, b"hello");
+    for combo in COMBOS {
+        let (vault, len) = (vault(combo), 5 + combo.chunk_overhead());
+        let nonce = nonce(&vault);
+        let chunk = done(len, |out| {
+            vault.write_chunk(&CONTENT_KEY, &nonce, u64::MAX, &nonce, b"hello", out)
+        });
+        let cleartext = done(5, |out| {
+            vault.open_chunk(&CONTENT_KEY, &nonce, u64::MAX, &chunk, out)
+        });
+        assert_eq!(cleartext, b"hello");
 
-    let write = |nonce: &[u8], cleartext: &[u8], len| {
-        refused(len, |out| {
-            write_chunk(&CONTENT_KEY, &NONCE, 0, nonce, cleartext, out)
-        })
-        .row()
-    };
-    assert_eq!(write(&[9; 13], b"hello", 33), 1);
-    assert_eq!(write(&[9; 12], b"", 33), 4);
-    assert_eq!(write(&[9; 12], b"hello", 32), 7);
+        let write = |own_nonce: &[u8], cleartext: &[u8], len| {
+            refused(len, |out| {
+                vault.write_chunk(&CONTENT_KEY, &nonce, 0, own_nonce, cleartext, out)
+            })
+            .row()
+        };
+        assert_eq!(write(&nonce[1..], b"hello", len), 1);
+        assert_eq!(write(&nonce, b"", len), 4);
+        assert_eq!(write(&nonce, b"hello", len - 1), 7);
 
-    let open = |nonce: &[u8], number, chunk: &[u8], len| {
-        refused(len, |out| {
-            open_chunk(&CONTENT_KEY, nonce, number, chunk, out)
-        })
-    };
-    assert_eq!(open(&[], 5, &chunk, 5), Refusal::KeyOrNonceSize);
-    assert_eq!(open(&NONCE, 5, &chunk[5..], 5), Refusal::Length);
-    assert_eq!(open(&NONCE, 5, &chunk, 4), Refusal::Room);
-    assert_eq!(open(&NONCE, 5, &chunk, 5), Refusal::Chunk(5));
+        let open = |key: &[u8], nonce: &[u8], chunk: &[u8], len| {
+            refused(len, |out| vault.open_chunk(key, nonce, 5, chunk, out))
+        };
+        assert_eq!(open(&[], &nonce, &chunk, 5), Refusal::KeyOrNonceSize);
+        assert_eq!(open(&CONTENT_KEY, &[], &chunk, 5), Refusal::KeyOrNonceSize);
+        assert_eq!(open(&CONTENT_KEY, &nonce, &chunk[5..], 5), Refusal::Length);
+        assert_eq!(open(&CONTENT_KEY, &nonce, &chunk, 4), Refusal::Room);
+        assert_eq!(open(&CONTENT_KEY, &nonce, &chunk, 5), Refusal::Chunk(5));
+    }
 }
 
 #[test]
-fn files() {
-    let (cleartext, file) = file();
-    let length = cleartext_length(file.len() as u64).expect("a file's length");
-    assert_eq!(length, cleartext.len());
-    let opened = done(length, |out| open_file(&ENC, &MAC, &file, out));
-    assert!(opened == cleartext);
-
-    let write = |nonces: &[u8], cleartext: &[u8], len| {
-        refused(len, |out| {
-            write_file(&ENC, &MAC, &NONCE, &CONTENT_KEY, nonces, cleartext, out)
-        })
-        .row()
-    };
-    assert_eq!(write(&[0; 23], &cleartext, file.len()), 1);
+fn written_files() {
+    let cleartext = two_chunks();
     let too_long = vec![0; MAX_CLEARTEXT_LEN + 1];
-    assert_eq!(write(&[0; 513 * 12], &too_long, 0), 4);
-    assert_eq!(write(&[0; 24], &cleartext, file.len() - 1), 7);
-    assert_eq!(write(&[0; 24], &cleartext, file.len()), 8);
+    for combo in COMBOS {
+        let (vault, nonce_len) = (vault(combo), combo.nonce_len());
+        let len = file(&vault, &cleartext).len();
+        assert_eq!(vault.cleartext_length(len as u64), Ok(cleartext.len()));
 
-    let open = |mac: &[u8], file: &[u8], len| refused(len, |out| open_file(&ENC, mac, file, out));
-    assert_eq!(open(&[0; 33], &file, length), Refusal::KeyOrNonceSize);
-    assert_eq!(open(&MAC, &file[..69], length), Refusal::Length);
-    assert_eq!(open(&MAC, &file, length - 1), Refusal::Room);
-    assert_eq!(open(&MAC, &flipped(&file, 67), length), Refusal::Header);
-    assert_eq!(open(&MAC, &flipped(&file, 68), length), Refusal::Chunk(0));
-    let last = file.len() - 1;
-    assert_eq!(open(&MAC, &flipped(&file, last), length), Refusal::Chunk(1));
+        let write = |nonces: usize, cleartext: &[u8], len| {
+            let nonces = vec![0; nonces];
+            refused(len, |out| {
+                vault.write_file(&nonce(&vault), &CONTENT_KEY, &nonces, cleartext, out)
+            })
+            .row()
+        };
+        assert_eq!(write(2 * nonce_len - 1, &cleartext, len), 1);
+        assert_eq!(write(513 * nonce_len, &too_long, 0), 4);
+        assert_eq!(write(2 * nonce_len, &cleartext, len - 1), 7);
+        assert_eq!(write(2 * nonce_len, &cleartext, len), 8);
+    }
+}
+
+#[test]
+fn opened_files() {
+    let cleartext = two_chunks();
+    for combo in COMBOS {
+        let (vault, header) = (vault(combo), combo.header_len());
+        let (file, len) = (file(&vault, &cleartext), cleartext.len());
+        let opened = done(len, |out| vault.open_file(&file, out));
+        assert!(opened == cleartext);
+
+        let open = |file: &[u8], len| refused(len, |out| vault.open_file(file, out));
+        assert_eq!(open(&file[..header + 1], len), Refusal::Length);
+        assert_eq!(open(&file, len - 1), Refusal::Room);
+        assert_eq!(open(&flipped(&file, header - 1), len), Refusal::Header);
+        assert_eq!(open(&flipped(&file, header), len), Refusal::Chunk(0));
+        let last = file.len() - 1;
+        assert_eq!(open(&flipped(&file, last), len), Refusal::Chunk(1));
+    }
+}
+
+/// A file of one combo is none of the other: some lengths are no file's there,
+/// and else the header is not genuine.
+#[test]
+fn the_other_combo() {
+    let [gcm, ctrmac] = COMBOS.map(vault);
+    let cleartext = two_chunks();
+    for (own, other, len, refusal) in [
+        (&gcm, &ctrmac, 0, Refusal::Length),
+        (&gcm, &ctrmac, 40, Refusal::Length),
+        (&gcm, &ctrmac, 41, Refusal::Header),
+        (&ctrmac, &gcm, 0, Refusal::Length),
+        (&ctrmac, &gcm, 1, Refusal::Header),
+        (&ctrmac, &gcm, 32_728, Refusal::Header),
+        (&ctrmac, &gcm, 32_729, Refusal::Length),
+        (&ctrmac, &gcm, 32_756, Refusal::Length),
+        (&ctrmac, &gcm, 32_757, Refusal::Header),
+    ] {
+        let file = file(own, &cleartext[..len]);
+        let row = refused(len + 100, |out| other.open_file(&file, out));
+        assert_eq!(row, refusal, "{own:?}, {len} bytes");
+    }
 }
 
 #[test]
 fn ranges() {
-    let (cleartext, file) = file();
+    let cleartext = two_chunks();
     let end = cleartext.len() as u64;
-    for (from, count) in [
-        (0, 0),
-        (end, 0),
-        (0, end),
-        (32_767, 2),
-        (32_768, 10),
-        (5, 7),
-    ] {
-        let part = done(count as usize, |out| {
-            read_range(&ENC, &MAC, &file, from, count, out)
-        });
-        assert!(part == cleartext[from as usize..][..count as usize]);
-    }
-    let damaged = flipped(&file, 68);
-    let part = done(1, |out| read_range(&ENC, &MAC, &damaged, 32_768, 1, out));
-    assert_eq!(part, cleartext[32_768..32_769]);
+    for combo in COMBOS {
+        let vault = vault(combo);
+        let file = file(&vault, &cleartext);
+        for (from, count) in [
+            (0, 0),
+            (end, 0),
+            (0, end),
+            (32_767, 2),
+            (32_768, 10),
+            (5, 7),
+        ] {
+            let part = done(count as usize, |out| {
+                vault.read_range(&file, from, count, out)
+            });
+            assert!(part == cleartext[from as usize..][..count as usize]);
+        }
+        let damaged = flipped(&file, combo.header_len());
+        let part = done(1, |out| vault.read_range(&damaged, 32_768, 1, out));
+        assert_eq!(part, cleartext[32_768..32_769]);
 
-    let read = |enc: &[u8], file: &[u8], from, count, len| {
-        refused(len, |out| read_range(enc, &MAC, file, from, count, out))
-    };
-    assert_eq!(read(&[], &file, 0, 9, 9), Refusal::KeyOrNonceSize);
-    assert_eq!(read(&ENC, &file[..67], 0, 9, 9), Refusal::Length);
-    assert_eq!(read(&ENC, &file, u64::MAX, 1, 9), Refusal::Range);
-    assert_eq!(read(&ENC, &file, 0, 9, 8), Refusal::Room);
-    assert_eq!(read(&ENC, &flipped(&file, 0), 0, 0, 9), Refusal::Header);
-    assert_eq!(read(&ENC, &damaged, 32_767, 2, 9), Refusal::Chunk(0));
+        let read = |file: &[u8], from, count, len| {
+            refused(len, |out| vault.read_range(file, from, count, out))
+        };
+        assert_eq!(read(&file[..67], 0, 9, 9), Refusal::Length);
+        assert_eq!(read(&file, u64::MAX, 1, 9), Refusal::Range);
+        assert_eq!(read(&file, 0, 9, 8), Refusal::Room);
+        assert_eq!(read(&flipped(&file, 0), 0, 0, 9), Refusal::Header);
+        assert_eq!(read(&damaged, 32_767, 2, 9), Refusal::Chunk(0));
+    }
 }
 
 #[test]
 fn plain_names() {
-    let (stored, full) = written(b"log.txt");
-    assert_eq!((stored.len(), full.len()), (36, 0));
-    let name = done(7, |out| open_name(&ENC, &MAC, ID, &stored, out));
-    assert_eq!(name, b"log.txt");
+    for vault in COMBOS.map(vault) {
+        let (stored, full) = written(&vault, b"log.txt");
+        assert_eq!((stored.len(), full.len()), (36, 0));
+        let name = done(7, |out| vault.open_name(ID, &stored, out));
+        assert_eq!(name, b"log.txt");
 
-    let write = |enc: &[u8], id: &[u8], name: &[u8], len| {
-        refused(len, |out| write_name(enc, &MAC, id, name, out, &mut [])).row()
-    };
-    assert_eq!(write(&[1; 16], ID, b"log.txt", 36), 1);
-    assert_eq!(write(&ENC, &[0x80], b"log.txt", 36), 2);
-    assert_eq!(write(&ENC, ID, b"", 36), 3);
-    assert_eq!(write(&ENC, ID, b"log.txt", 35), 7);
+        let write = |id: &[u8], name: &[u8], len| {
+            refused(len, |out| vault.write_name(id, name, out, &mut [])).row()
+        };
+        assert_eq!(write(&[0x80], b"log.txt", 36), 2);
+        assert_eq!(write(ID, b"", 36), 3);
+        assert_eq!(write(ID, b"log.txt", 35), 7);
 
-    let open = |enc: &[u8], id: &[u8], stored: &[u8], len| {
-        refused(len, |out| open_name(enc, &MAC, id, stored, out)).row()
-    };
-    assert_eq!(open(&[1; 16], ID, &stored, 7), 1);
-    assert_eq!(open(&ENC, &[b' '; 37], &stored, 7), 2);
-    assert_eq!(open(&ENC, ID, &stored[1..], 7), 5);
-    assert_eq!(open(&ENC, ID, &stored, 6), 7);
-    assert_eq!(open(&ENC, b"", &stored, 7), 12);
+        let open = |id: &[u8], stored: &[u8], len| {
+            refused(len, |out| vault.open_name(id, stored, out)).row()
+        };
+        assert_eq!(open(&[b' '; 37], &stored, 7), 2);
+        assert_eq!(open(ID, &stored[1..], 7), 5);
+        assert_eq!(open(ID, &stored, 6), 7);
+        assert_eq!(open(b"", &stored, 7), 12);
+    }
 }
 
 #[test]
 fn shortened_names() {
     let name = [b'n'; 147];
-    let (stored, full) = written(&name);
-    assert_eq!((stored.len(), full.len()), (32, 224));
-    let opened = done(147, |out| {
-        open_long_name(&ENC, &MAC, ID, &stored, &full, out)
-    });
-    assert_eq!(opened, name);
+    for vault in COMBOS.map(vault) {
+        let (stored, full) = written(&vault, &name);
+        assert_eq!((stored.len(), full.len()), (32, 224));
+        let opened = done(147, |out| vault.open_long_name(ID, &stored, &full, out));
+        assert_eq!(opened, name);
 
-    let row = refused(32, |out| {
-        write_name(&ENC, &MAC, ID, &name, out, &mut [0; 223])
-    })
-    .row();
-    assert_eq!(row, 7);
+        let row = refused(32, |out| vault.write_name(ID, &name, out, &mut [0; 223])).row();
+        assert_eq!(row, 7);
 
-    let open = |mac: &[u8], id: &[u8], stored: &[u8], full: &[u8], len| {
-        refused(len, |out| open_long_name(&ENC, mac, id, stored, full, out)).row()
-    };
-    assert_eq!(open(&[], ID, &stored, &full, 147), 1);
-    assert_eq!(open(&MAC, &[0xff], &stored, &full, 147), 2);
-    assert_eq!(open(&MAC, ID, &stored, &full[..220], 147), 5);
-    assert_eq!(open(&MAC, ID, &stored, &full, 146), 7);
-    assert_eq!(open(&MAC, ID, &stored[1..], &full, 147), 11);
-    assert_eq!(open(&MAC, b"", &stored, &full, 147), 12);
+        let open = |id: &[u8], stored: &[u8], full: &[u8], len| {
+            refused(len, |out| vault.open_long_name(id, stored, full, out)).row()
+        };
+        assert_eq!(open(&[0xff], &stored, &full, 147), 2);
+        assert_eq!(open(ID, &stored, &full[..220], 147), 5);
+        assert_eq!(open(ID, &stored, &full, 146), 7);
+        assert_eq!(open(ID, &stored[1..], &full, 147), 11);
+        assert_eq!(open(b"", &stored, &full, 147), 12);
+    }
 }
 
 /// The full names of the bytes `log\xff` and of 147 bytes FF, and the hash name
@@ -302,26 +377,28 @@ const LONG_STRAY_HASH: &[u8] = b"hFFL1ne717ByBqnDt0gV7H89rIU=.c9s";
 /// Row 3, but that row 12 comes first where a name is opened.
 #[test]
 fn not_text() {
-    for name in [
-        &b"log\xff"[..],
-        b"a/b",
-        b"a\0",
-        b"\xc0\xaf",
-        b"\xed\xa0\x80",
-    ] {
-        let refusal = refused(220, |out| write_name(&ENC, &MAC, ID, name, out, &mut []));
-        assert_eq!(refusal, Refusal::Name);
+    for vault in COMBOS.map(vault) {
+        for name in [
+            &b"log\xff"[..],
+            b"a/b",
+            b"a\0",
+            b"\xc0\xaf",
+            b"\xed\xa0\x80",
+        ] {
+            let refusal = refused(220, |out| vault.write_name(ID, name, out, &mut []));
+            assert_eq!(refusal, Refusal::Name);
+        }
+        let open = |id: &[u8]| refused(4, |out| vault.open_name(id, STRAY, out));
+        assert_eq!(open(ID), Refusal::Name);
+        assert_eq!(open(b""), Refusal::SyntheticIv);
+        let open = |id: &[u8]| {
+            refused(147, |out| {
+                vault.open_long_name(id, LONG_STRAY_HASH, LONG_STRAY, out)
+            })
+        };
+        assert_eq!(open(ID), Refusal::Name);
+        assert_eq!(open(b""), Refusal::SyntheticIv);
     }
-    let open = |id: &[u8]| refused(4, |out| open_name(&ENC, &MAC, id, STRAY, out));
-    assert_eq!(open(ID), Refusal::Name);
-    assert_eq!(open(b""), Refusal::SyntheticIv);
-    let open = |id: &[u8]| {
-        refused(147, |out| {
-            open_long_name(&ENC, &MAC, id, LONG_STRAY_HASH, LONG_STRAY, out)
-        })
-    };
-    assert_eq!(open(ID), Refusal::Name);
-    assert_eq!(open(b""), Refusal::SyntheticIv);
 }
 
 /// The sizes that are named are those of the longest names, plain and
@@ -331,38 +408,51 @@ fn longest_names() {
     let name: Vec<_> = (0..=MAX_NAME_LEN).map(|i| b'a' + (i % 26) as u8).collect();
     let (longest, rest) = name.split_at(1020);
     assert_eq!(rest.len(), 1);
-    let (plain, none) = written(&longest[..146]);
-    assert_eq!((plain.len(), none.len()), (MAX_STORED_LEN, 0));
-    let (stored, full) = written(longest);
-    assert_eq!((stored.len(), full.len()), (32, MAX_FULL_LEN));
-    let opened = done(MAX_NAME_LEN, |out| {
-        open_long_name(&ENC, &MAC, ID, &stored, &full, out)
-    });
-    assert_eq!(opened, longest);
+    for vault in COMBOS.map(vault) {
+        let (plain, none) = written(&vault, &longest[..146]);
+        assert_eq!((plain.len(), none.len()), (MAX_STORED_LEN, 0));
+        let (stored, full) = written(&vault, longest);
+        assert_eq!((stored.len(), full.len()), (32, MAX_FULL_LEN));
+        let opened = done(MAX_NAME_LEN, |out| {
+            vault.open_long_name(ID, &stored, &full, out)
+        });
+        assert_eq!(opened, longest);
 
-    let row = refused(MAX_STORED_LEN, |out| {
-        write_name(&ENC, &MAC, ID, &name, out, &mut [0; MAX_FULL_LEN])
-    })
-    .row();
-    assert_eq!(row, 3);
+        let row = refused(MAX_STORED_LEN, |out| {
+            vault.write_name(ID, &name, out, &mut [0; MAX_FULL_LEN])
+        })
+        .row();
+        assert_eq!(row, 3);
+    }
 }
 
 #[test]
 fn paths() {
-    let path = done(36, |out| dir_path(&[0x55; 32], &[0x77; 32], b"", out));
-    assert_eq!(path, b"/d/VL/WEHT553J5DR7OZLRJAYDIWFCXZABOD");
+    for combo in COMBOS {
+        let vault = Vault::new(&[0x55; 32], &[0x77; 32], combo).expect("two keys");
+        let path = done(36, |out| vault.dir_path(b"", out));
+        assert_eq!(path, b"/d/VL/WEHT553J5DR7OZLRJAYDIWFCXZABOD");
 
-    let path = |enc: &[u8], id: &[u8], len| refused(len, |out| dir_path(enc, &MAC, id, out)).row();
-    assert_eq!(path(&[], ID, 36), 1);
-    assert_eq!(path(&ENC, &[0x80], 36), 2);
-    assert_eq!(path(&ENC, ID, 35), 7);
+        let path = |id: &[u8], len| refused(len, |out| vault.dir_path(id, out)).row();
+        assert_eq!(path(&[0x80], 36), 2);
+        assert_eq!(path(ID, 35), 7);
+    }
 }
 
 #[test]
 fn lengths() {
-    assert_eq!(file_length(0), Ok(HEADER_LEN));
-    assert_eq!(file_length(MAX_CLEARTEXT_LEN as u64), Ok(16_791_620));
-    assert_eq!(file_length(u64::MAX), Err(Refusal::Length));
-    assert_eq!(cleartext_length(16_791_620), Ok(MAX_CLEARTEXT_LEN));
-    assert_eq!(cleartext_length(69), Err(Refusal::Length));
+    for (combo, longest) in COMBOS.into_iter().zip([16_791_620, 16_801_880]) {
+        let (vault, header) = (vault(combo), combo.header_len());
+        assert_eq!(vault.file_length(0), Ok(header));
+        assert_eq!(
+            vault.file_length(1),
+            Ok(header + 1 + combo.chunk_overhead())
+        );
+        assert_eq!(vault.file_length(MAX_CLEARTEXT_LEN as u64), Ok(longest));
+        assert_eq!(vault.file_length(u64::MAX), Err(Refusal::Length));
+        let longest = vault.cleartext_length(longest as u64);
+        assert_eq!(longest, Ok(MAX_CLEARTEXT_LEN));
+        let none = vault.cleartext_length(header as u64 + 1);
+        assert_eq!(none, Err(Refusal::Length));
+    }
 }

@@ -1,21 +1,15 @@
 //! The functions are declared here as they are in `include/skrapnefja.h` and in
-//! the library's own source, and the sizes and rows are the same as in C.
+//! the library's own source, and the sizes, rows and combos are the same as in C.
 
 use skrapnefja::*;
 use std::collections::BTreeMap;
+use std::fs;
 
 const HEADER: &str = include_str!("../../../include/skrapnefja.h");
 const FFI: &str = include_str!("../src/ffi.rs");
 
-/// What the library exports.
-const SOURCES: [&str; 6] = [
-    include_str!("../../../crates/skrapnefja/src/chunk.rt"),
-    include_str!("../../../crates/skrapnefja/src/file.rt"),
-    include_str!("../../../crates/skrapnefja/src/header.rt"),
-    include_str!("../../../crates/skrapnefja/src/key.rt"),
-    include_str!("../../../crates/skrapnefja/src/lengths.rt"),
-    include_str!("../../../crates/skrapnefja/src/name.rt"),
-];
+/// The folder with the source of what the library exports.
+const SOURCES: &str = concat!(env!("CARGO_MANIFEST_DIR"), "/../../crates/skrapnefja/src");
 
 /// Each function with its parameters, as Rust declares them.
 type Functions = BTreeMap<String, Vec<String>>;
@@ -23,7 +17,7 @@ type Functions = BTreeMap<String, Vec<String>>;
 #[test]
 fn same_functions() {
     let (c, rust) = (c_functions(), rust_functions());
-    assert_eq!(c.len(), 15);
+    assert_eq!(c.len(), 16);
     assert_eq!(rust, c);
     assert_eq!(exported_functions(), c);
 }
@@ -31,15 +25,20 @@ fn same_functions() {
 #[test]
 fn same_sizes() {
     let c = c_sizes();
-    assert_eq!(c.len(), 12);
+    assert_eq!(c.len(), 16);
+    let (gcm, ctrmac) = (Combo::SivGcm, Combo::SivCtrmac);
     for (name, size) in [
         ("KEY_SIZE", KEY_LEN),
         ("WRAPPED_KEY_SIZE", WRAPPED_KEY_LEN),
-        ("NONCE_SIZE", 12),
+        ("VAULT_SIZE", VAULT_LEN),
+        ("SIV_GCM_NONCE_SIZE", gcm.nonce_len()),
+        ("SIV_GCM_HEADER_SIZE", gcm.header_len()),
+        ("SIV_GCM_CHUNK_OVERHEAD", gcm.chunk_overhead()),
+        ("SIV_CTRMAC_NONCE_SIZE", ctrmac.nonce_len()),
+        ("SIV_CTRMAC_HEADER_SIZE", ctrmac.header_len()),
+        ("SIV_CTRMAC_CHUNK_OVERHEAD", ctrmac.chunk_overhead()),
         ("DIR_ID_MAX", 36),
-        ("HEADER_SIZE", HEADER_LEN),
         ("CHUNK_SIZE", CHUNK_LEN),
-        ("CHUNK_OVERHEAD", CHUNK_OVERHEAD),
         ("CLEARTEXT_MAX", MAX_CLEARTEXT_LEN),
         ("PATH_SIZE", PATH_LEN),
         ("NAME_MAX", MAX_NAME_LEN),
@@ -50,14 +49,20 @@ fn same_sizes() {
     }
 }
 
+/// Each combo has its name and number in C.
+#[test]
+fn same_combos() {
+    let expected = [
+        ("SIV_GCM", Combo::SivGcm as u32),
+        ("SIV_CTRMAC", Combo::SivCtrmac as u32),
+    ];
+    assert_eq!(c_enum("combo"), numbered(&expected));
+}
+
 /// Each row has its name and number in C, and its refusal here.
 #[test]
 fn same_rows() {
-    let code = without_comments(HEADER);
-    let (_, rows) = code.split_once("enum skrapnefja_row {").expect("rows");
-    let (rows, _) = rows.split_once('}').expect("an end");
-    let rows: Vec<_> = rows.split(',').map(str::trim).collect();
-    let expected = [
+    let refusals = [
         ("KEY_OR_NONCE_SIZE", Refusal::KeyOrNonceSize),
         ("DIRECTORY_ID", Refusal::DirectoryId),
         ("NAME", Refusal::Name),
@@ -70,13 +75,30 @@ fn same_rows() {
         ("CHUNK", Refusal::Chunk(7)),
         ("HASH_NAME", Refusal::HashName),
         ("SYNTHETIC_IV", Refusal::SyntheticIv),
+        ("COMBO", Refusal::Combo),
         ("CHECK_VALUE", Refusal::CheckValue),
     ];
-    assert_eq!(rows[0], "SKRAPNEFJA_DONE = 0");
-    assert_eq!(rows.len(), 1 + expected.len());
-    for (row, (name, refusal)) in rows[1..].iter().zip(expected) {
-        assert_eq!(*row, format!("SKRAPNEFJA_{name} = {}", refusal.row()));
-    }
+    let rows = refusals.map(|(name, refusal)| (name, refusal.row()));
+    let expected = [&[("DONE", 0)], &rows[..]].concat();
+    assert_eq!(c_enum("row"), numbered(&expected));
+}
+
+/// The constants of an enumeration, each with its number.
+fn c_enum(name: &str) -> Vec<String> {
+    let code = without_comments(HEADER);
+    let start = format!("enum skrapnefja_{name} {{");
+    let (_, constants) = code.split_once(&start).expect("the enumeration");
+    let (constants, _) = constants.split_once('}').expect("an end");
+    let constants = constants.split(',').map(str::trim);
+    constants.map(String::from).collect()
+}
+
+/// As they stand in C.
+fn numbered(constants: &[(&str, u32)]) -> Vec<String> {
+    let numbered = constants
+        .iter()
+        .map(|(name, number)| format!("SKRAPNEFJA_{name} = {number}"));
+    numbered.collect()
 }
 
 fn c_sizes() -> BTreeMap<String, usize> {
@@ -117,6 +139,7 @@ fn c_parameter(text: &str) -> String {
         "uint8_t *" => "*mut u8",
         "uint64_t *" => "*mut u64",
         "uint64_t" => "u64",
+        "uint32_t" => "u32",
         "size_t" => "usize",
         kind => panic!("another type: {kind}"),
     };
@@ -136,7 +159,8 @@ fn rust_functions() -> Functions {
 }
 
 fn exported_functions() -> Functions {
-    let declarations = SOURCES.iter().flat_map(|source| {
+    let sources = sources();
+    let declarations = sources.iter().flat_map(|source| {
         let declarations = source.split("pub extern \"C\" fn skrapnefja_");
         declarations.skip(1)
     });
@@ -151,6 +175,14 @@ fn exported_functions() -> Functions {
     parsed.collect()
 }
 
+fn sources() -> Vec<String> {
+    let files = fs::read_dir(SOURCES).expect("a folder");
+    let paths = files.map(|file| file.expect("a file").path());
+    let paths = paths.filter(|path| path.extension().is_some_and(|end| end == "rt"));
+    let texts = paths.map(|path| fs::read_to_string(path).expect("a text"));
+    texts.collect()
+}
+
 /// A slice is a pointer and a length. What C calls `length` is `written` there.
 fn exported_parameter(text: &str) -> Vec<String> {
     let (name, kind) = text.split_once(": ").expect("a type");
@@ -159,7 +191,7 @@ fn exported_parameter(text: &str) -> Vec<String> {
         "&[u8]" => vec![format!("{name}: *const u8"), format!("{name}_len: usize")],
         "&mut [u8]" => vec![format!("{name}: *mut u8"), format!("{name}_len: usize")],
         "&mut u64" => vec![format!("{name}: *mut u64")],
-        "u64" => vec![format!("{name}: u64")],
+        "u64" | "u32" => vec![format!("{name}: {kind}")],
         kind => panic!("another type: {kind}"),
     }
 }

@@ -3,7 +3,7 @@ ghost use mathlib.Core.Path.{_≡_};
 ghost use Rattle.octets.specs.Rows.{number};
 ghost use Rattle.answer.specs.Meaning.{row};
 
-/// Why a call was refused, by rows 1 to 12 and 20. `Chunk` has the number of the chunk.
+/// Why a call was refused, by rows 1 to 12, 17 and 20. `Chunk` has the number of the chunk.
 pub enum Refusal {
     KeyOrNonceSize,
     DirectoryId,
@@ -17,6 +17,7 @@ pub enum Refusal {
     Chunk(u64),
     HashName,
     SyntheticIv,
+    Combo,
     CheckValue,
 }
 
@@ -57,6 +58,7 @@ pub fn row_number(refusal: Refusal) -> u32
         Refusal::Chunk(_) => 10,
         Refusal::HashName => 11,
         Refusal::SyntheticIv => 12,
+        Refusal::Combo => 17,
         Refusal::CheckValue => 20,
     }
 }

@@ -6,6 +6,8 @@ use crate::line::write_line;
 use answer::Answer;
 use answer::Refusal;
 use file_read::open_file;
+use vault::record::Combo;
+use vault::record::make_vault;
 ghost use mathlib.Core.Path.{_≡_};
 ghost use Prim.Native.Nat.{_≤_};
 ghost use lib.ListN.{length};
@@ -13,7 +15,7 @@ ghost use Rattle.octets.specs.Rows.{ended};
 ghost use Rattle.answer.specs.Meaning.{meaning};
 ghost use Rattle.check_line.specs.Check.{checkVault, longest, checked, check};
 
-// Opens the file behind its keys into room.
+// Opens the file behind its keys, in SIV_GCM, into room.
 fn check_vault(input: &[u8], room: &mut [u8]) -> Answer
     ensures { λ r. ⌜ ended (meaning r) (now (room .exit)) ≡ checkVault (now (input .entry)) (now (room .entry)) ⌝ }
 {
@@ -26,7 +28,9 @@ fn check_vault(input: &[u8], room: &mut [u8]) -> Answer
     let enc = &input[..32];
     let mac = &input[32..64];
     let file = &input[64..];
-    open_file(enc, mac, file, room)
+    let made = make_vault(enc, mac, Combo::SivGcm);
+    let v = made.vault;
+    open_file(v, file, room)
 }
 
 /// Checks the input, the encryption master key, the MAC master key and a file: writes the line that tells the outcome, and returns its length.

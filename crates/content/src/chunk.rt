@@ -1,5 +1,5 @@
-// The calls on a single chunk, by the cipher combo. They are lent the content key and the header's nonce, not the encryption master key and not the
-// header's reserved bytes: a chunk depends on neither, so the contracts hold for any. Nor does one of SIV_GCM depend on the MAC master key.
+// The calls on a single chunk. They are lent the content key and the header's nonce, and not the header's reserved bytes: a chunk does not depend
+// on these, so the contracts hold for any. Nor does it depend on the encryption master key, and in SIV_GCM not on the MAC master key.
 use aes::round_table::table;
 use answer::Answer;
 use answer::Refusal;
@@ -8,6 +8,7 @@ use vault::chunk::good_chunk;
 use vault::chunk::open_part;
 use vault::chunk::seal_chunk;
 use vault::record::Combo;
+use vault::record::Vault;
 use vault::sizes::head_right;
 use vault::sizes::sizes_of;
 ghost use mathlib.Core.Path.{_≡_};
@@ -20,9 +21,8 @@ ghost use Rattle.octets.specs.Rows.{ended};
 ghost use Rattle.aes_spec.specs.Cipher.{aes};
 ghost use Rattle.frame.specs.Frame.{headWith};
 ghost use Rattle.frame.specs.Single.{writeChunk, openChunk};
-ghost use Rattle.siv_gcm.specs.SivGcm.{codec};
 ghost use Rattle.answer.specs.Meaning.{meaning};
-ghost use Rattle.vault.specs.Vault.{sizesOf, codecWith};
+ghost use Rattle.vault.specs.Vault.{sizesOf, codecWith, codecOf};
 ghost use Rattle.vault.specs.Under.{sealedUnder, goodUnder, openedUnder};
 
 // Is n at least `low` and at most `high`?
@@ -100,8 +100,9 @@ fn write_by(
     Answer::Done(n)
 }
 
-/// Writes the chunk of a number, a nonce and a cleartext of 1 to 32,768 bytes: 28 bytes more. Rows 1, 4, 7.
+/// Writes the chunk of a number, a nonce and a cleartext of 1 to 32,768 bytes: 28 bytes more in SIV_GCM, 48 in SIV_CTRMAC. Rows 1, 4, 7.
 pub fn write_chunk(
+    v: Vault,
     key: &[u8],
     header_nonce: &[u8],
     number: u64,
@@ -109,11 +110,13 @@ pub fn write_chunk(
     cleartext: &[u8],
     out: &mut [u8],
 ) -> Answer
-    ensures { λ r. ⌜ ((enc mac reserved : List ℕ) → ended (meaning r) (now (out .exit)) ≡ writeChunk (codec enc mac) (headWith (now («header_nonce» .entry)) reserved (now (key .entry))) number (now (nonce .entry)) (now (cleartext .entry)) (now (out .entry))) ⌝ }
+    ensures { λ r. ⌜ ((reserved : List ℕ) → ended (meaning r) (now (out .exit)) ≡ writeChunk (codecOf v) (headWith (now («header_nonce» .entry)) reserved (now (key .entry))) number (now (nonce .entry)) (now (cleartext .entry)) (now (out .entry))) ⌝ }
 {
+    let combo = v.combo;
+    let mac = v.mac;
     write_by(
-        Combo::SivGcm,
-        &[],
+        combo,
+        &mac,
         key,
         header_nonce,
         number,
@@ -179,15 +182,18 @@ fn open_by(
     Answer::Done(n)
 }
 
-/// Opens a chunk under its number: writes its cleartext, 28 bytes less. Rows 1, 4, 7, 10 with that number.
+/// Opens a chunk under its number: writes its cleartext. Rows 1, 4, 7, 10 with that number.
 pub fn open_chunk(
+    v: Vault,
     key: &[u8],
     header_nonce: &[u8],
     number: u64,
     chunk: &[u8],
     out: &mut [u8],
 ) -> Answer
-    ensures { λ r. ⌜ ((enc mac reserved : List ℕ) → ended (meaning r) (now (out .exit)) ≡ openChunk (codec enc mac) (headWith (now («header_nonce» .entry)) reserved (now (key .entry))) number (now (chunk .entry)) (now (out .entry))) ⌝ }
+    ensures { λ r. ⌜ ((reserved : List ℕ) → ended (meaning r) (now (out .exit)) ≡ openChunk (codecOf v) (headWith (now («header_nonce» .entry)) reserved (now (key .entry))) number (now (chunk .entry)) (now (out .entry))) ⌝ }
 {
-    open_by(Combo::SivGcm, &[], key, header_nonce, number, chunk, out)
+    let combo = v.combo;
+    let mac = v.mac;
+    open_by(combo, &mac, key, header_nonce, number, chunk, out)
 }

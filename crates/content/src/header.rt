@@ -1,12 +1,12 @@
-// The calls on a single header, under the encryption master key enc and the MAC master key mac.
+// The calls on a single header.
 use aes::round_table::table;
 use answer::Answer;
 use answer::HeaderAnswer;
 use answer::Refusal;
 use octets::slice::copy_at;
-use siv_gcm::sizes::master_keys_right;
 use vault::header::seal_header;
 use vault::record::Combo;
+use vault::record::Vault;
 use vault::sizes::head_right;
 use vault::sizes::sizes_of;
 ghost use mathlib.Core.Path.{_≡_};
@@ -14,9 +14,8 @@ ghost use lib.ListN.{length, replicate};
 ghost use Rattle.octets.specs.Rows.{ended};
 ghost use Rattle.frame.specs.Frame.{ownHead};
 ghost use Rattle.frame.specs.Single.{writeHeader, openHeader};
-ghost use Rattle.siv_gcm.specs.SivGcm.{codec};
 ghost use Rattle.answer.specs.Meaning.{row, meaning, headerMeaning, reservedBeside};
-ghost use Rattle.vault.specs.Vault.{codecWith};
+ghost use Rattle.vault.specs.Vault.{codecWith, codecOf};
 
 // Writes a header by the combo, under master keys of their size.
 fn write_by(
@@ -42,14 +41,14 @@ fn write_by(
     Answer::Done(size)
 }
 
-/// Writes the header of a nonce and a content key, its eight reserved bytes FF: 68 bytes. Rows 1, 7.
-pub fn write_header(enc: &[u8], mac: &[u8], nonce: &[u8], key: &[u8], out: &mut [u8]) -> Answer
-    ensures { λ r. ⌜ ended (meaning r) (now (out .exit)) ≡ writeHeader (codec (now (enc .entry)) (now (mac .entry))) (ownHead (now (nonce .entry)) (now (key .entry))) (now (out .entry)) ⌝ }
+/// Writes the header of a nonce and a content key, its eight reserved bytes FF: 68 bytes in SIV_GCM, 88 in SIV_CTRMAC. Rows 1, 7.
+pub fn write_header(v: Vault, nonce: &[u8], key: &[u8], out: &mut [u8]) -> Answer
+    ensures { λ r. ⌜ ended (meaning r) (now (out .exit)) ≡ writeHeader (codecOf v) (ownHead (now (nonce .entry)) (now (key .entry))) (now (out .entry)) ⌝ }
 {
-    if !master_keys_right(enc, mac) {
-        return Answer::Refused(Refusal::KeyOrNonceSize);
-    }
-    write_by(Combo::SivGcm, enc, mac, nonce, key, out)
+    let combo = v.combo;
+    let enc = v.enc;
+    let mac = v.mac;
+    write_by(combo, &enc, &mac, nonce, key, out)
 }
 
 // A refusal of the header opener.
@@ -88,13 +87,13 @@ fn open_by(combo: Combo, enc: &[u8], mac: &[u8], header: &[u8], out: &mut [u8]) 
     }
 }
 
-/// Opens a header: writes its content key, 32 bytes, and returns its eight reserved bytes. Rows 1, 4, 7, 9.
-pub fn open_header(enc: &[u8], mac: &[u8], header: &[u8], out: &mut [u8]) -> HeaderAnswer
-    ensures { λ r. ⌜ ended (headerMeaning r) (now (out .exit)) ≡ openHeader (codec (now (enc .entry)) (now (mac .entry))) (now (header .entry)) (now (out .entry)) ⌝ }
-    ensures { λ r. ⌜ r .reserved ≡ reservedBeside (openHeader (codec (now (enc .entry)) (now (mac .entry))) (now (header .entry)) (now (out .entry)) .outcome) ⌝ }
+/// Opens a header: writes its content key, 32 bytes, and returns its eight reserved bytes. Rows 4, 7, 9.
+pub fn open_header(v: Vault, header: &[u8], out: &mut [u8]) -> HeaderAnswer
+    ensures { λ r. ⌜ ended (headerMeaning r) (now (out .exit)) ≡ openHeader (codecOf v) (now (header .entry)) (now (out .entry)) ⌝ }
+    ensures { λ r. ⌜ r .reserved ≡ reservedBeside (openHeader (codecOf v) (now (header .entry)) (now (out .entry)) .outcome) ⌝ }
 {
-    if !master_keys_right(enc, mac) {
-        return refused(Refusal::KeyOrNonceSize);
-    }
-    open_by(Combo::SivGcm, enc, mac, header, out)
+    let combo = v.combo;
+    let enc = v.enc;
+    let mac = v.mac;
+    open_by(combo, &enc, &mac, header, out)
 }

@@ -1,4 +1,4 @@
-// The file writer, by the cipher combo, under the encryption master key enc and the MAC master key mac.
+// The file writer, under the vault's record.
 mod chunks;
 mod nonces;
 
@@ -7,10 +7,11 @@ use crate::nonces::repeats;
 use answer::Answer;
 use answer::Refusal;
 use gcm::key::prepare;
-use siv_gcm::sizes::master_keys_right;
 use vault::header::seal_header;
 use vault::lengths::file_length;
 use vault::record::Combo;
+use vault::record::Vault;
+use vault::sizes::head_right;
 use vault::sizes::sizes_of;
 ghost use mathlib.Core.Path.{_≡_};
 ghost use mathlib.Core.Bool.{_&&_};
@@ -19,20 +20,23 @@ ghost use lib.ListN.{length};
 ghost use lib.Dec.{eqb};
 ghost use Rattle.octets.specs.Rows.{ended};
 ghost use Rattle.frame.specs.Layout.{chunks, fileLength};
-ghost use Rattle.frame.specs.Frame.{ownChoice, fileOf, writeFile};
-ghost use Rattle.siv_gcm.specs.SivGcm.{codec};
+ghost use Rattle.frame.specs.Frame.{ownHead, ownChoice, headRight, fileOf, writeFile};
 ghost use Rattle.answer.specs.Meaning.{meaning};
-ghost use Rattle.vault.specs.Vault.{sizesOf, codecWith};
+ghost use Rattle.vault.specs.Vault.{sizesOf, codecWith, codecOf};
 
 // Do the header's nonce and the content key have their sizes, and is there a nonce of w bytes for each chunk of n bytes of cleartext?
-fn sizes_right(w: usize, header_nonce: &[u8], key: &[u8], nonces: &[u8], n: usize) -> bool
+fn sizes_right(
+    combo: Combo,
+    w: usize,
+    header_nonce: &[u8],
+    key: &[u8],
+    nonces: &[u8],
+    n: usize,
+) -> bool
     requires { ⌜ w ≤ 16 ⌝ }
-    ensures { λ r. ⌜ r ≡ ((eqb (length (now («header_nonce» .entry))) w && eqb (length (now (key .entry))) 32) && eqb (length (now (nonces .entry))) (w * chunks n)) ⌝ }
+    ensures { λ r. ⌜ r ≡ (headRight (sizesOf combo) (ownHead (now («header_nonce» .entry)) (now (key .entry))) && eqb (length (now (nonces .entry))) (w * chunks n)) ⌝ }
 {
-    if header_nonce.len() != w {
-        return false;
-    }
-    if key.len() != 32 {
+    if !head_right(combo, header_nonce, key) {
         return false;
     }
     nonces.len() == w * frame::chunks(n)
@@ -88,7 +92,7 @@ fn write_by(
 {
     let n = cleartext.len();
     let w = sizes_of(combo).nonce;
-    if !sizes_right(w, header_nonce, key, nonces, n) {
+    if !sizes_right(combo, w, header_nonce, key, nonces, n) {
         return Answer::Refused(Refusal::KeyOrNonceSize);
     }
     if n > 16777216 {
@@ -106,30 +110,20 @@ fn write_by(
     Answer::Done(size)
 }
 
-/// Writes the file of a cleartext to the front of out, and answers its length. `nonces` has 12 bytes for each chunk, in order.
+/// Writes the file of a cleartext to the front of out, and answers its length. `nonces` has one nonce for each chunk, in order.
 /// Rows 1, 4, 7, 8.
 pub fn write_file(
-    enc: &[u8],
-    mac: &[u8],
+    v: Vault,
     header_nonce: &[u8],
     key: &[u8],
     nonces: &[u8],
     cleartext: &[u8],
     out: &mut [u8],
 ) -> Answer
-    ensures { λ r. ⌜ ended (meaning r) (now (out .exit)) ≡ writeFile (codec (now (enc .entry)) (now (mac .entry))) (ownChoice (now («header_nonce» .entry)) (now (key .entry)) (now (nonces .entry)) (now (cleartext .entry))) (now (out .entry)) ⌝ }
+    ensures { λ r. ⌜ ended (meaning r) (now (out .exit)) ≡ writeFile (codecOf v) (ownChoice (now («header_nonce» .entry)) (now (key .entry)) (now (nonces .entry)) (now (cleartext .entry))) (now (out .entry)) ⌝ }
 {
-    if !master_keys_right(enc, mac) {
-        return Answer::Refused(Refusal::KeyOrNonceSize);
-    }
-    write_by(
-        Combo::SivGcm,
-        enc,
-        mac,
-        header_nonce,
-        key,
-        nonces,
-        cleartext,
-        out,
-    )
+    let combo = v.combo;
+    let enc = v.enc;
+    let mac = v.mac;
+    write_by(combo, &enc, &mac, header_nonce, key, nonces, cleartext, out)
 }

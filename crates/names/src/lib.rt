@@ -1,4 +1,4 @@
-// The calls on names and directory paths, under the encryption master key enc and the MAC master key mac. Each takes any bytes, and a
+// The calls on names and directory paths, under the vault's record, whose combo they do not depend on. Each takes any bytes, and a
 // refusal changes none.
 pub mod opener;
 pub mod path;

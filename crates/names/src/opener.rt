@@ -6,19 +6,16 @@ use name_texts::checks::name_length;
 use name_texts::checks::short;
 use name_texts::texts::is_hash;
 use name_texts::texts::open_text;
-use siv_gcm::sizes::master_keys_right;
+use vault::record::Vault;
 ghost use mathlib.Core.Path.{_≡_};
 ghost use Rattle.octets.specs.Rows.{ended};
 ghost use Rattle.answer.specs.Meaning.{meaning};
-ghost use Rattle.name_spec.specs.Calls.{openName, openLongName};
+ghost use Rattle.names.specs.ByRecord.{openName, openLongName};
 
-/// Opens a full name of at most 220 characters, which is stored unshortened, in the directory with this ID. Rows 1, 2, 5, 7, 12, 3.
-pub fn open_name(enc: &[u8], mac: &[u8], dir_id: &[u8], stored: &[u8], out: &mut [u8]) -> Answer
-    ensures { λ r. ⌜ ended (meaning r) (now (out .exit)) ≡ openName (now (enc .entry)) (now (mac .entry)) (now («dir_id» .entry)) (now (stored .entry)) (now (out .entry)) ⌝ }
+/// Opens a full name of at most 220 characters, which is stored unshortened, in the directory with this ID. Rows 2, 5, 7, 12, 3.
+pub fn open_name(v: Vault, dir_id: &[u8], stored: &[u8], out: &mut [u8]) -> Answer
+    ensures { λ r. ⌜ ended (meaning r) (now (out .exit)) ≡ openName v (now («dir_id» .entry)) (now (stored .entry)) (now (out .entry)) ⌝ }
 {
-    if !master_keys_right(enc, mac) {
-        return Answer::Refused(Refusal::KeyOrNonceSize);
-    }
     if !id_right(dir_id) {
         return Answer::Refused(Refusal::DirectoryId);
     }
@@ -32,23 +29,15 @@ pub fn open_name(enc: &[u8], mac: &[u8], dir_id: &[u8], stored: &[u8], out: &mut
     if out.len() < n {
         return Answer::Refused(Refusal::Room);
     }
-    open_text(enc, mac, dir_id, stored, n, out)
+    let enc = v.enc;
+    let mac = v.mac;
+    open_text(&enc, &mac, dir_id, stored, n, out)
 }
 
-/// Opens a shortened name from its hash name, as stored, and its full name, in the directory with this ID. Rows 1, 2, 5, 7, 11, 12, 3.
-pub fn open_long_name(
-    enc: &[u8],
-    mac: &[u8],
-    dir_id: &[u8],
-    stored: &[u8],
-    full: &[u8],
-    out: &mut [u8],
-) -> Answer
-    ensures { λ r. ⌜ ended (meaning r) (now (out .exit)) ≡ openLongName (now (enc .entry)) (now (mac .entry)) (now («dir_id» .entry)) (now (stored .entry)) (now (full .entry)) (now (out .entry)) ⌝ }
+/// Opens a shortened name from its hash name, as stored, and its full name, in the directory with this ID. Rows 2, 5, 7, 11, 12, 3.
+pub fn open_long_name(v: Vault, dir_id: &[u8], stored: &[u8], full: &[u8], out: &mut [u8]) -> Answer
+    ensures { λ r. ⌜ ended (meaning r) (now (out .exit)) ≡ openLongName v (now («dir_id» .entry)) (now (stored .entry)) (now (full .entry)) (now (out .entry)) ⌝ }
 {
-    if !master_keys_right(enc, mac) {
-        return Answer::Refused(Refusal::KeyOrNonceSize);
-    }
     if !id_right(dir_id) {
         return Answer::Refused(Refusal::DirectoryId);
     }
@@ -65,5 +54,7 @@ pub fn open_long_name(
     if !is_hash(stored, full) {
         return Answer::Refused(Refusal::HashName);
     }
-    open_text(enc, mac, dir_id, full, n, out)
+    let enc = v.enc;
+    let mac = v.mac;
+    open_text(&enc, &mac, dir_id, full, n, out)
 }

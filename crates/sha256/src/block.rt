@@ -8,7 +8,7 @@ use hashing::operations::maj;
 use hashing::words::load;
 use std::num::wrapping_add_u32;
 ghost use mathlib.Core.Path.{_≡_};
-ghost use Prim.Native.Nat.{_≤_, _+_};
+ghost use Prim.Native.Nat.{_≤_, _<_, _+_};
 ghost use lib.ListN.{length, take, drop};
 ghost use Rattle.hashing.specs.Operations.{plus};
 ghost use Rattle.hashing.specs.Schedule.{extended};
@@ -93,16 +93,39 @@ fn step(x: Working, k: u32, w: u32) -> Working
     }
 }
 
+// Step n, after the steps before it.
+fn step_at(k: &[u32; 64], w: &[u32; 64], n: usize, x: Working) -> Working
+    requires { ⌜ (now k ≡ constants) × (n < 64) ⌝ }
+    ensures { λ r. ⌜ ((s : spec.Variables) → variables x ≡ spec.steps (now (w .entry)) n s → variables r ≡ spec.steps (now (w .entry)) (n + 1) s) ⌝ }
+{
+    step(x, k[n], w[n])
+}
+
+// The eight steps from n on. After eight steps each variable is at its place again, so that none has to be moved.
+fn eight_steps(k: &[u32; 64], w: &[u32; 64], n: usize, x: Working) -> Working
+    requires { ⌜ (now k ≡ constants) × (n + 8 ≤ 64) ⌝ }
+    ensures { λ r. ⌜ ((s : spec.Variables) → variables x ≡ spec.steps (now (w .entry)) n s → variables r ≡ spec.steps (now (w .entry)) (n + 8) s) ⌝ }
+{
+    let x1 = step_at(k, w, n, x);
+    let x2 = step_at(k, w, n + 1, x1);
+    let x3 = step_at(k, w, n + 2, x2);
+    let x4 = step_at(k, w, n + 3, x3);
+    let x5 = step_at(k, w, n + 4, x4);
+    let x6 = step_at(k, w, n + 5, x5);
+    let x7 = step_at(k, w, n + 6, x6);
+    step_at(k, w, n + 7, x7)
+}
+
 // All 64 steps.
 fn steps(k: &[u32; 64], w: &[u32; 64], x: Working) -> Working
     requires { ⌜ now k ≡ constants ⌝ }
     ensures { λ r. ⌜ variables r ≡ spec.steps (now (w .entry)) 64 (variables x) ⌝ }
 {
     let mut y = x;
-    let mut n = 0;
-    while n < 64 {
-        y = step(y, k[n], w[n]);
-        n += 1;
+    let mut i = 0;
+    while i < 8 {
+        y = eight_steps(k, w, 8 * i, y);
+        i += 1;
     }
     y
 }

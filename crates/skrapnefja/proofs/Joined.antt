@@ -1,11 +1,14 @@
--- What an exported function leaves: its call's end, with the answer made into a row and numbers.
+-- What an exported function leaves: its call's end, with the answer made into a row and numbers; or the row of the bytes lent as a vault, and all else as it was.
 -- Assumes nothing.
 use Prim.Native.Nat.{ℕ}
 use mathlib.Core.Path.{_≡_, ap}
 use mathlib.Core.List.{List}
-use Rattle.octets.specs.Rows.{Outcome, number, End, ended}
+use Rattle.octets.specs.Rows.{Outcome, refused, number, End, ended}
 use Rattle.name_spec.specs.Calls.{NameEnd, nameEnded}
-use Rattle.skrapnefja.specs.Results.{writtenAfter, fullLengthAfter, reservedAfter, atAfter, result, resultOf, headerResult, headerResultOf, chunkResult, chunkResultOf, nameResult, nameResultOf}
+use Rattle.vault.specs.declared.record.Vault.{Vault}
+use Rattle.vault_bytes.specs.VaultBytes.{lentRow, lent, lentEnd}
+use Rattle.vault_bytes.proofs.Lending.{lent-refused}
+use Rattle.skrapnefja.specs.Results.{lentNameEnd, writtenAfter, fullLengthAfter, reservedAfter, atAfter, result, resultOf, headerResult, headerResultOf, chunkResult, chunkResultOf, nameResult, nameResultOf}
 
 module _ {o : Outcome} {r : ℕ} {b : List ℕ} {e : End} (l : ℕ) {l′ : ℕ} (call : ended o b ≡ e) where
   pub joined : (r ≡ number o) × (l′ ≡ writtenAfter o l) → result r b l′ ≡ resultOf e l
@@ -24,3 +27,23 @@ pub joined-name : {o : Outcome} {r : ℕ} {s f : List ℕ} {e : NameEnd} (l m : 
     → (r ≡ number o) × (l′ ≡ writtenAfter o l) × (m′ ≡ fullLengthAfter o m) → nameResult r s f l′ m′ ≡ nameResultOf e l m
 unfolding nameResultOf
 joined-name l m call h = rw (h .0, h .1, h .2) (ap (λ (x : NameEnd). nameResultOf x l m) call)
+
+module _ (b out : List ℕ) (call : Vault → End) {r : ℕ} (l : ℕ) (e : r ≡ lentRow b) (f : r ≡ 0 → ⊥) where
+  row-alone : ended (refused r) out ≡ lentEnd b call out
+  row-alone = lent-refused b call (λ row. ended (refused row) out) e f
+
+  pub lent-row : result r out l ≡ resultOf (lentEnd b call out) l
+  unfolding resultOf
+  lent-row = ap (λ (x : End). resultOf x l) row-alone
+
+  pub lent-row-header : (v : ℕ) → headerResult r out l v ≡ headerResultOf (lentEnd b call out) l v
+  unfolding headerResultOf
+  lent-row-header v = ap (λ (x : End). headerResultOf x l v) row-alone
+
+  pub lent-row-at : (a : ℕ) → chunkResult r out l a ≡ chunkResultOf (lentEnd b call out) l a
+  unfolding chunkResultOf
+  lent-row-at a = ap (λ (x : End). chunkResultOf x l a) row-alone
+
+pub lent-row-name : (b s t : List ℕ) (call : Vault → NameEnd) {r : ℕ} (l m : ℕ) → r ≡ lentRow b → (r ≡ 0 → ⊥) → nameResult r s t l m ≡ nameResultOf (lentNameEnd b call s t) l m
+unfolding nameResultOf
+lent-row-name b s t call l m e f = ap (λ (x : NameEnd). nameResultOf x l m) (lent-refused b call (λ row. nameEnded (refused row) s t) e f)

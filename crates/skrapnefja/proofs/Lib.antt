@@ -1,3 +1,4 @@
 pub mod Refusals
 pub mod Joined
 pub mod Reserved
+pub mod NoVault

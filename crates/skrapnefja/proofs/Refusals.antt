@@ -9,7 +9,7 @@ use Rattle.octets.specs.Rows.{number}
 use Rattle.answer.specs.Meaning.{row, meaning, withReserved}
 use Rattle.answer.proofs.Refusal.{the-type}
 use Rattle.answer.specs.declared.Refusal.{Refusal}
-use Rattle.answer.specs.declared.Refusal.the-variants.{KeyOrNonceSize, DirectoryId, Name, Length, Text, Range, Room, RepeatedNonce, Header, Chunk, HashName, SyntheticIv, CheckValue}
+use Rattle.answer.specs.declared.Refusal.the-variants.{KeyOrNonceSize, DirectoryId, Name, Length, Text, Range, Room, RepeatedNonce, Header, Chunk, HashName, SyntheticIv, Combo, CheckValue}
 use Rattle.answer.specs.declared.Answer.{Answer}
 use Rattle.answer.specs.declared.Answer.the-variants.{Done, Refused}
 use Rattle.skrapnefja.specs.Results.{writtenAfter, fullLengthAfter, reservedAfter, atAfter}
@@ -28,10 +28,11 @@ keeps-lengths Header n = (refl, refl, refl)
 keeps-lengths (Chunk i) n = (refl, refl, refl)
 keeps-lengths HashName n = (refl, refl, refl)
 keeps-lengths SyntheticIv n = (refl, refl, refl)
+keeps-lengths Combo n = (refl, refl, refl)
 keeps-lengths CheckValue n = (refl, refl, refl)
 
 -- a refusal that is not `Chunk`, the one with the tag 9, leaves `at`
-pub keeps-at : (x : Refusal) (a : ℕ) → OneOf (0 ∷ 1 ∷ 2 ∷ 3 ∷ 4 ∷ 5 ∷ 6 ∷ 7 ∷ 8 ∷ 10 ∷ 11 ∷ 12 ∷ []) (tagOf the-type x) → atAfter (row x) a ≡ a
+pub keeps-at : (x : Refusal) (a : ℕ) → OneOf (0 ∷ 1 ∷ 2 ∷ 3 ∷ 4 ∷ 5 ∷ 6 ∷ 7 ∷ 8 ∷ 10 ∷ 11 ∷ 12 ∷ 13 ∷ []) (tagOf the-type x) → atAfter (row x) a ≡ a
 keeps-at KeyOrNonceSize a k = refl
 keeps-at DirectoryId a k = refl
 keeps-at Name a k = refl
@@ -41,9 +42,10 @@ keeps-at Range a k = refl
 keeps-at Room a k = refl
 keeps-at RepeatedNonce a k = refl
 keeps-at Header a k = refl
-keeps-at (Chunk i) a k = absurd (miss (0 ∷ 1 ∷ 2 ∷ 3 ∷ 4 ∷ 5 ∷ 6 ∷ 7 ∷ 8 ∷ 10 ∷ 11 ∷ 12 ∷ []) 9 tt k)
+keeps-at (Chunk i) a k = absurd (miss (0 ∷ 1 ∷ 2 ∷ 3 ∷ 4 ∷ 5 ∷ 6 ∷ 7 ∷ 8 ∷ 10 ∷ 11 ∷ 12 ∷ 13 ∷ []) 9 tt k)
 keeps-at HashName a k = refl
 keeps-at SyntheticIv a k = refl
+keeps-at Combo a k = refl
 keeps-at CheckValue a k = refl
 
 -- the reserved bytes behind the length change neither the row nor the length

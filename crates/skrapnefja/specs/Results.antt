@@ -5,7 +5,9 @@ use Prim.Native.Nat.{ℕ}
 use mathlib.Core.List.{List, [], _∷_}
 use Rattle.octets.specs.BigEndian.{int}
 use Rattle.octets.specs.Rows.{Outcome, done, refused, refusedAt, number, End}
-use Rattle.name_spec.specs.Calls.{NameEnd}
+use Rattle.name_spec.specs.Calls.{NameEnd, nameEnded}
+use Rattle.vault.specs.declared.record.Vault.{Vault}
+use Rattle.vault_bytes.specs.VaultBytes.{lent}
 
 -- ---- the numbers, by what they were before
 
@@ -79,6 +81,10 @@ unfoldable pub chunkResultOf : End → ℕ → ℕ → ChunkResult
 chunkResultOf e l a = chunkResult (number (e .outcome)) (e .buffer) (writtenAfter (e .outcome) l) (atAfter (e .outcome) a)
 
 -- ---- the name writer
+
+-- The row of the bytes lent as a vault leaves both buffers as they were.
+abbrev pub lentNameEnd : List ℕ → (Vault → NameEnd) → List ℕ → List ℕ → NameEnd
+lentNameEnd b call stored full = lent b call (λ row. nameEnded (refused row) stored full)
 
 pub record NameResult : Type 0 where
   pub returned : ℕ

@@ -4,16 +4,18 @@ use crate::ending::end_at;
 use file_read::open_file;
 use file_read::read_range;
 use file_write::write_file;
+use vault_bytes::lent_row;
+use vault_bytes::vault_in;
 ghost use mathlib.Core.Path.{_≡_};
 ghost use Rattle.frame.specs.Frame.{ownChoice, readRange, openFile, writeFile};
-ghost use Rattle.siv_gcm.specs.SivGcm.{codec};
+ghost use Rattle.vault.specs.Vault.{codecOf};
+ghost use Rattle.vault_bytes.specs.VaultBytes.{lentEnd};
 ghost use Rattle.skrapnefja.specs.Results.{result, resultOf, chunkResult, chunkResultOf};
 
-// Writes the file of a cleartext; `chunk_nonces` has 12 bytes for each chunk, in order.
+// Writes the file of a cleartext; `chunk_nonces` has one nonce for each chunk, in order.
 #[no_mangle]
 pub extern "C" fn skrapnefja_write_file(
-    enc: &[u8],
-    mac: &[u8],
+    vault: &[u8],
     header_nonce: &[u8],
     content_key: &[u8],
     chunk_nonces: &[u8],
@@ -21,12 +23,15 @@ pub extern "C" fn skrapnefja_write_file(
     out: &mut [u8],
     written: &mut u64,
 ) -> u32
-    ensures { λ r. ⌜ result r (now (out .exit)) (now (written .exit)) ≡ resultOf (writeFile (codec (now (enc .entry)) (now (mac .entry))) (ownChoice (now («header_nonce» .entry)) (now («content_key» .entry)) (now («chunk_nonces» .entry)) (now (cleartext .entry))) (now (out .entry))) (now (written .entry)) ⌝ }
+    ensures { λ r. ⌜ result r (now (out .exit)) (now (written .exit)) ≡ resultOf (lentEnd (now (vault .entry)) (λ v. writeFile (codecOf v) (ownChoice (now («header_nonce» .entry)) (now («content_key» .entry)) (now («chunk_nonces» .entry)) (now (cleartext .entry))) (now (out .entry))) (now (out .entry))) (now (written .entry)) ⌝ }
 {
+    let row = lent_row(vault);
+    if row != 0 {
+        return row;
+    }
     end(
         write_file(
-            enc,
-            mac,
+            vault_in(vault),
             header_nonce,
             content_key,
             chunk_nonces,
@@ -40,23 +45,25 @@ pub extern "C" fn skrapnefja_write_file(
 // Opens a file.
 #[no_mangle]
 pub extern "C" fn skrapnefja_open_file(
-    enc: &[u8],
-    mac: &[u8],
+    vault: &[u8],
     file: &[u8],
     out: &mut [u8],
     written: &mut u64,
     at: &mut u64,
 ) -> u32
-    ensures { λ r. ⌜ chunkResult r (now (out .exit)) (now (written .exit)) (now (at .exit)) ≡ chunkResultOf (openFile (codec (now (enc .entry)) (now (mac .entry))) (now (file .entry)) (now (out .entry))) (now (written .entry)) (now (at .entry)) ⌝ }
+    ensures { λ r. ⌜ chunkResult r (now (out .exit)) (now (written .exit)) (now (at .exit)) ≡ chunkResultOf (lentEnd (now (vault .entry)) (λ v. openFile (codecOf v) (now (file .entry)) (now (out .entry))) (now (out .entry))) (now (written .entry)) (now (at .entry)) ⌝ }
 {
-    end_at(open_file(enc, mac, file, out), written, at)
+    let row = lent_row(vault);
+    if row != 0 {
+        return row;
+    }
+    end_at(open_file(vault_in(vault), file, out), written, at)
 }
 
 // Reads count bytes of the cleartext of a file, from `from` on.
 #[no_mangle]
 pub extern "C" fn skrapnefja_read_range(
-    enc: &[u8],
-    mac: &[u8],
+    vault: &[u8],
     file: &[u8],
     from: u64,
     count: u64,
@@ -64,10 +71,14 @@ pub extern "C" fn skrapnefja_read_range(
     written: &mut u64,
     at: &mut u64,
 ) -> u32
-    ensures { λ r. ⌜ chunkResult r (now (out .exit)) (now (written .exit)) (now (at .exit)) ≡ chunkResultOf (readRange (codec (now (enc .entry)) (now (mac .entry))) (now (file .entry)) from count (now (out .entry))) (now (written .entry)) (now (at .entry)) ⌝ }
+    ensures { λ r. ⌜ chunkResult r (now (out .exit)) (now (written .exit)) (now (at .exit)) ≡ chunkResultOf (lentEnd (now (vault .entry)) (λ v. readRange (codecOf v) (now (file .entry)) from count (now (out .entry))) (now (out .entry))) (now (written .entry)) (now (at .entry)) ⌝ }
 {
+    let row = lent_row(vault);
+    if row != 0 {
+        return row;
+    }
     end_at(
-        read_range(enc, mac, file, from as usize, count as usize, out),
+        read_range(vault_in(vault), file, from as usize, count as usize, out),
         written,
         at,
     )

@@ -1,7 +1,7 @@
 -- What holds of either combo.
 -- Assumes nothing.
 use Prim.Native.Nat.{ℕ, _-_, _≤_}
-use mathlib.Core.Path.{_≡_, refl}
+use mathlib.Core.Path.{_≡_, refl, sym, ap}
 use mathlib.Core.Bool.{true}
 use mathlib.Core.List.{List}
 use mathlib.Core.Logic.{_↔_}
@@ -9,7 +9,7 @@ use lib.Dec.{lit≤}
 use lib.ListN.{length}
 use Rattle.octets.specs.Bytes.{Bytes}
 use Rattle.aes_spec.specs.Cipher.{aes}
-use Rattle.frame.specs.Frame.{Codec, keySize, masterKeysRight}
+use Rattle.frame.specs.Frame.{Codec, Head, keySize, masterKeysRight}
 use Rattle.frame.specs.Laws.{ChunkLaws, Laws}
 use Rattle.frame.specs.Rules.{KeySizes}
 use Rattle.frame.specs.Single.{writeChunkRows, writeChunk, openChunkRows, openChunk}
@@ -21,8 +21,10 @@ use Rattle.siv_ctrmac.proofs.Sealed as ctrmac-sealed
 use Rattle.siv_ctrmac.proofs.Instance as ctrmac
 use Rattle.vault.specs.declared.record.Combo.{Combo}
 use Rattle.vault.specs.declared.record.Combo.the-variants.{SivGcm, SivCtrmac}
-use Rattle.vault.specs.Vault.{sizesOf, codecWith}
+use Rattle.vault.specs.declared.record.Vault.{Vault}
+use Rattle.vault.specs.Vault.{sizesOf, codecWith, codecOf}
 use Rattle.vault.specs.Under.{sealedUnder, openedUnder}
+use Rattle.vault.specs.Combos.{TwoCombos, ChunkKeys}
 
 pub small-overhead : (k : Combo) → sizesOf k .overhead ≤ 48
 small-overhead SivGcm = lit≤ tt
@@ -82,3 +84,17 @@ pub ignores-reserved : (k : Combo) (enc mac : List ℕ) → ChunksIgnoreReserved
 unfolding writeChunkRows writeChunk openChunkRows openChunk
 ignores-reserved SivGcm enc mac = λ n r r′ key i out. (λ m p. refl, λ c. refl)
 ignores-reserved SivCtrmac enc mac = λ n r r′ key i out. (λ m p. refl, λ c. refl)
+
+chunk-keys-by : (k : Combo) (h : Head) (i : ℕ) (n p c out enc enc′ mac : List ℕ)
+    → (writeChunk (codecWith k enc mac) h i n p out ≡ writeChunk (codecWith k enc′ mac) h i n p out)
+    × (openChunk (codecWith k enc mac) h i c out ≡ openChunk (codecWith k enc′ mac) h i c out)
+unfolding writeChunkRows writeChunk openChunkRows openChunk
+chunk-keys-by SivGcm h i n p c out enc enc′ mac = (refl, refl)
+chunk-keys-by SivCtrmac h i n p c out enc enc′ mac = (refl, refl)
+
+pub chunk-keys : ChunkKeys
+unfolding writeChunkRows writeChunk openChunkRows openChunk
+chunk-keys h i n p c out enc enc′ mac mac′ = (λ k. chunk-keys-by k h i n p c out enc enc′ mac, refl, refl)
+
+pub two-combos : TwoCombos
+two-combos = (λ enc mac. (refl, refl), λ v. sym (ap (λ (C : Codec). C .sizes) (codec-by (v .combo) (v .enc) (v .mac))), refl, refl)

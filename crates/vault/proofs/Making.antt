@@ -6,6 +6,7 @@ use mathlib.Core.Bool.{Bool, true, false}
 use mathlib.Core.List.{List, []}
 use native.Mathlib.Omega.{arith}
 use mathlib.Core.Logic.{_↔_}
+use lib.ListN.{replicate}
 use Rattle.octets.specs.Rows.{Outcome, done, refused, refusedAt}
 use Rattle.octets.proofs.Equality.{true-false}
 use Rattle.frame.specs.Frame.{masterKeysRight}
@@ -36,7 +37,7 @@ by-test : (enc mac : List ℕ) (k : Combo) (b : Bool) → masterKeysRight enc ma
     let r = makeVault enc mac k in
     ((r .outcome ≡ done []) ↔ KeySizes enc mac)
     × ((r .outcome ≡ done []) → (r .vault .enc ≡ enc) × (r .vault .mac ≡ mac) × (r .vault .combo ≡ k))
-    × ((KeySizes enc mac → ⊥) → r .outcome ≡ refused 1)
+    × ((KeySizes enc mac → ⊥) → (r .outcome ≡ refused 1) × (r .vault ≡ vaultWith (replicate 32 0) (replicate 32 0) k))
 by-test enc mac k true e =
     let m = sym (made enc mac k e) in (
       (λ d. keys-exactly enc mac .0 e, λ s. ap (λ (r : Making). r .outcome) m),
@@ -47,7 +48,7 @@ by-test enc mac k false e =
     let o = ap (λ (r : Making). r .outcome) (sym (not-made enc mac k e)) in (
       (λ d. absurd (done-refused (sym d ∙ o)), λ s. absurd (true-false (sym (keys-exactly enc mac .1 s) ∙ e))),
       λ d. absurd (done-refused (sym d ∙ o)),
-      λ f. o,
+      λ f. (o, ap (λ (r : Making). r .vault) (sym (not-made enc mac k e))),
     )
 
 pub makes-exactly : MakesExactly

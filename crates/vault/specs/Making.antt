@@ -38,11 +38,12 @@ unmade combo = record { outcome = refused 1; vault = vaultWith (replicate keySiz
 unfoldable pub makeVault : List ℕ → List ℕ → Combo → Making
 makeVault enc mac combo = cond (masterKeysRight enc mac) (record { outcome = done []; vault = vaultWith enc mac combo }) (unmade combo)
 
--- The making succeeds exactly where both keys have 32 bytes, and the record then holds the keys and the combo lent; else row 1 is given.
+-- The making succeeds exactly where both keys have 32 bytes, and the record then holds the keys and the combo lent; else row 1 is given, beside a record
+-- of keys of zeros and the combo lent.
 abbrev pub MakesExactly : Type 0
 MakesExactly =
     (enc mac : List ℕ) (combo : Combo) →
     let r = makeVault enc mac combo in
     ((r .outcome ≡ done []) ↔ KeySizes enc mac)
     × ((r .outcome ≡ done []) → (r .vault .enc ≡ enc) × (r .vault .mac ≡ mac) × (r .vault .combo ≡ combo))
-    × ((KeySizes enc mac → ⊥) → r .outcome ≡ refused 1)
+    × ((KeySizes enc mac → ⊥) → (r .outcome ≡ refused 1) × (r .vault ≡ vaultWith (replicate 32 0) (replicate 32 0) combo))

@@ -1,5 +1,5 @@
-// Chunks, by the combo. Each function is lent the round table t, the key schedule w of the content key, the table m of its hash subkey, which
-// SIV_GCM uses, and the MAC master key, which SIV_CTRMAC uses.
+// Chunks, by the combo. Each function is lent the round table t and the key schedule w of the content key; those that make or test a tag or MAC also the
+// table m of its hash subkey, which SIV_GCM uses, and the MAC master key, which SIV_CTRMAC uses.
 use crate::record::Combo;
 ghost use mathlib.Core.Path.{_≡_};
 ghost use Prim.Native.Nat.{_+_, _≤_, _<_, _^_};

@@ -1,4 +1,4 @@
-// The vault's record (master keys and cipher combo), which no call takes yet; lengths, headers and chunks by the combo.
+// The vault's record, master keys and cipher combo, which every call takes; lengths, headers and chunks by the combo.
 pub mod chunk;
 pub mod header;
 pub mod lengths;

@@ -2,6 +2,7 @@
 use answer::Refusal;
 use octets::slice::copy_at;
 ghost use mathlib.Core.Path.{_≡_};
+ghost use Rattle.frame.specs.Frame.{masterKeysRight};
 ghost use Rattle.vault.specs.Making.{making, makeVault, unmade};
 
 /// How headers and chunks are enciphered.
@@ -28,6 +29,16 @@ pub struct MadeVault {
     pub vault: Vault,
 }
 
+// Do both master keys have 32 bytes?
+pub fn master_keys_right(enc: &[u8], mac: &[u8]) -> bool
+    ensures { λ r. ⌜ r ≡ masterKeysRight (now (enc .entry)) (now (mac .entry)) ⌝ }
+{
+    if enc.len() != 32 {
+        return false;
+    }
+    mac.len() == 32
+}
+
 // A refusal of the making.
 fn refused(combo: Combo) -> MadeVault
     ensures { λ r. ⌜ making r ≡ unmade combo ⌝ }
@@ -46,10 +57,7 @@ fn refused(combo: Combo) -> MadeVault
 pub fn make_vault(enc: &[u8], mac: &[u8], combo: Combo) -> MadeVault
     ensures { λ r. ⌜ making r ≡ makeVault (now (enc .entry)) (now (mac .entry)) combo ⌝ }
 {
-    if enc.len() != 32 {
-        return refused(combo);
-    }
-    if mac.len() != 32 {
+    if !master_keys_right(enc, mac) {
         return refused(combo);
     }
     let mut e = [0u8; 32];

@@ -1,5 +1,7 @@
 // Published vectors of the building blocks, values of the stock program's tests, and values under keys, nonces and a number that all
 // differ (`second/vectors/distinct.txt`), a line each: what it prints is compared with those values.
+mod ctrmac;
+
 use content::chunk::open_chunk;
 use content::chunk::write_chunk;
 use content::header::open_header;
@@ -28,6 +30,15 @@ use primitives::hash::primitives_sha256;
 use primitives::text::primitives_base32;
 use primitives::text::primitives_base64url_encode;
 use primitives::text::primitives_proper_text;
+use vault::record::Combo;
+use vault::record::Vault;
+use vault::record::make_vault;
+
+// The vault of two master keys of 32 bytes.
+fn vault_of(enc: &[u8], mac: &[u8], combo: Combo) -> Vault {
+    let made = make_vault(enc, mac, combo);
+    made.vault
+}
 
 // The bytes in hex, on a line.
 fn print(bytes: &[u8]) {
@@ -181,12 +192,13 @@ fn utf8() {
     io::write_all(STDOUT_FILENO, b"\n");
 }
 
-// The stock program's header, under keys and a nonce of zeros.
+// The stock program's header of SIV_GCM, under keys and a nonce of zeros.
 fn stock_header() {
     let zeros = [0u8; 32];
     let nonce = [0u8; 12];
     let mut header = [0u8; 68];
-    write_header(&zeros, &zeros, &nonce, &zeros, &mut header);
+    let v = vault_of(&zeros, &zeros, Combo::SivGcm);
+    write_header(v, &nonce, &zeros, &mut header);
     print(&header);
 }
 
@@ -195,7 +207,8 @@ fn stock_chunk() {
     let zeros = [0u8; 32];
     let nonce = [0u8; 12];
     let mut chunk = [0u8; 39];
-    write_chunk(&zeros, &nonce, 0, &nonce, b"hello world", &mut chunk);
+    let v = vault_of(&zeros, &zeros, Combo::SivGcm);
+    write_chunk(v, &zeros, &nonce, 0, &nonce, b"hello world", &mut chunk);
     print(&chunk);
 }
 
@@ -205,13 +218,14 @@ fn stock_file() {
     let nonce = [0u8; 12];
     let text = b"hello world";
     let mut file = [0u8; 107];
-    write_file(&zeros, &zeros, &nonce, &zeros, &nonce, text, &mut file);
+    let v = vault_of(&zeros, &zeros, Combo::SivGcm);
+    write_file(v, &nonce, &zeros, &nonce, text, &mut file);
     print(&file);
     let mut cleartext = [0u8; 11];
-    open_file(&zeros, &zeros, &file, &mut cleartext);
+    open_file(v, &file, &mut cleartext);
     print(&cleartext);
     let mut part = [0u8; 5];
-    read_range(&zeros, &zeros, &file, 6, 5, &mut part);
+    read_range(v, &file, 6, 5, &mut part);
     print(&part);
 }
 
@@ -220,7 +234,7 @@ fn stock_path() {
     let enc = [0x55u8; 32];
     let mac = [0x77u8; 32];
     let mut out = [0u8; 36];
-    dir_path(&enc, &mac, b"", &mut out);
+    dir_path(vault_of(&enc, &mac, Combo::SivGcm), b"", &mut out);
     line(&out);
 }
 
@@ -233,54 +247,62 @@ fn stock_master_key() {
 }
 
 // The content key and the reserved bytes that a header opens to.
-fn opened_header(enc: &[u8], mac: &[u8], header: &[u8]) {
+fn opened_header(v: Vault, header: &[u8]) {
     let mut key = [0u8; 32];
-    let opened = open_header(enc, mac, header, &mut key);
+    let opened = open_header(v, header, &mut key);
     print(&key);
     print(&opened.reserved);
 }
 
 // A header, and what it opens to; and what the same header with other reserved bytes does.
-fn header(enc: &[u8], mac: &[u8], nonce: &[u8], content_key: &[u8]) {
+fn header(v: Vault, nonce: &[u8], content_key: &[u8]) {
     let mut header = [0u8; 68];
-    write_header(enc, mac, nonce, content_key, &mut header);
+    write_header(v, nonce, content_key, &mut header);
     print(&header);
-    opened_header(enc, mac, &header);
+    opened_header(v, &header);
     let other =
         b"\xa0\xa1\xa2\xa3\xa4\xa5\xa6\xa7\xa8\xa9\xaa\xab\x67\x9a\xff\xa9\xc0\x4d\x85\x37\x22\x24\xc5\x90\x43\x3f\x86\x99\x38\xe5\x13\x5b\xde\xfa\x0c\x23\xcc\x5f\x74\xd5\x2b\xfe\x23\x56\x8a\x2f\x1d\xa4\xf3\x7f\x0d\x62\x6f\x1b\xad\x30\xe9\x4f\x48\x69\x5a\xdd\x45\x79\x78\x99\x94\xd4";
-    opened_header(enc, mac, other);
+    opened_header(v, other);
 }
 
 // A chunk whose number has eight different bytes, and what it opens to.
-fn chunk(content_key: &[u8], header_nonce: &[u8]) {
+fn chunk(v: Vault, content_key: &[u8], header_nonce: &[u8]) {
     let number = 0x0102030405060708;
     let nonce = b"\xb0\xb1\xb2\xb3\xb4\xb5\xb6\xb7\xb8\xb9\xba\xbb";
     let text = b"hello world";
     let mut chunk = [0u8; 39];
-    write_chunk(content_key, header_nonce, number, nonce, text, &mut chunk);
+    write_chunk(
+        v,
+        content_key,
+        header_nonce,
+        number,
+        nonce,
+        text,
+        &mut chunk,
+    );
     print(&chunk);
     let mut cleartext = [0u8; 11];
-    open_chunk(content_key, header_nonce, number, &chunk, &mut cleartext);
+    open_chunk(v, content_key, header_nonce, number, &chunk, &mut cleartext);
     print(&cleartext);
 }
 
 // The path of a directory.
-fn path(enc: &[u8], mac: &[u8], id: &[u8]) {
+fn path(v: Vault, id: &[u8]) {
     let mut out = [0u8; 36];
-    dir_path(enc, mac, id, &mut out);
+    dir_path(v, id, &mut out);
     line(&out);
 }
 
 // A name in the root and in a directory, and what the second opens to.
-fn name(enc: &[u8], mac: &[u8], id: &[u8]) {
+fn name(v: Vault, id: &[u8]) {
     let mut stored = [0u8; 28];
     let mut full = [0u8; 1];
-    write_name(enc, mac, b"", b"a", &mut stored, &mut full);
+    write_name(v, b"", b"a", &mut stored, &mut full);
     line(&stored);
-    write_name(enc, mac, id, b"a", &mut stored, &mut full);
+    write_name(v, id, b"a", &mut stored, &mut full);
     line(&stored);
     let mut name = [0u8; 1];
-    open_name(enc, mac, id, &stored, &mut name);
+    open_name(v, id, &stored, &mut name);
     line(&name);
 }
 
@@ -294,34 +316,27 @@ fn alphabet(out: &mut [u8]) {
 }
 
 // A name that is shortened: its hash name, its full name, and what the two open to.
-fn long_name(enc: &[u8], mac: &[u8], id: &[u8], name: &[u8], full: &mut [u8], opened: &mut [u8]) {
+fn long_name(v: Vault, id: &[u8], name: &[u8], full: &mut [u8], opened: &mut [u8]) {
     let mut stored = [0u8; 32];
-    write_name(enc, mac, id, name, &mut stored, full);
+    write_name(v, id, name, &mut stored, full);
     line(&stored);
     line(full);
-    open_long_name(enc, mac, id, &stored, full, opened);
+    open_long_name(v, id, &stored, full, opened);
     line(opened);
 }
 
 // A name of 156 bytes, and one of 1,020, the longest.
-fn long_names(enc: &[u8], mac: &[u8], id: &[u8]) {
+fn long_names(v: Vault, id: &[u8]) {
     let mut name = [0u8; 156];
     alphabet(&mut name);
     let mut full = [0u8; 236];
     let mut opened = [0u8; 156];
-    long_name(enc, mac, id, &name, &mut full, &mut opened);
+    long_name(v, id, &name, &mut full, &mut opened);
     let mut longest = [0u8; 1020];
     alphabet(&mut longest);
     let mut longest_full = [0u8; 1388];
     let mut longest_opened = [0u8; 1020];
-    long_name(
-        enc,
-        mac,
-        id,
-        &longest,
-        &mut longest_full,
-        &mut longest_opened,
-    );
+    long_name(v, id, &longest, &mut longest_full, &mut longest_opened);
 }
 
 // The values under inputs that all differ.
@@ -334,12 +349,14 @@ fn distinct() {
         b"\x40\x41\x42\x43\x44\x45\x46\x47\x48\x49\x4a\x4b\x4c\x4d\x4e\x4f\x50\x51\x52\x53\x54\x55\x56\x57\x58\x59\x5a\x5b\x5c\x5d\x5e\x5f";
     let header_nonce = b"\xa0\xa1\xa2\xa3\xa4\xa5\xa6\xa7\xa8\xa9\xaa\xab";
     let id = b"e9250eb8-078d-4fc0-8835-be92a313360c";
-    header(enc, mac, header_nonce, content_key);
-    chunk(content_key, header_nonce);
-    path(enc, mac, id);
-    name(enc, mac, id);
-    long_names(enc, mac, id);
+    let v = vault_of(enc, mac, Combo::SivGcm);
+    header(v, header_nonce, content_key);
+    chunk(v, content_key, header_nonce);
+    path(v, id);
+    name(v, id);
+    long_names(v, id);
     wrapped(enc, content_key);
+    ctrmac::distinct(vault_of(enc, mac, Combo::SivCtrmac), content_key);
 }
 
 fn main() {
@@ -359,5 +376,6 @@ fn main() {
     stock_file();
     stock_path();
     stock_master_key();
+    ctrmac::stock_chunk();
     distinct();
 }

@@ -2,40 +2,64 @@
 
 use crate::random::Random;
 use crate::text::random_character;
-use second::vault::{Combo, Vault, CHUNK_LEN, MAX_CLEARTEXT_LEN};
+use second::vault::{Combo, CHUNK_LEN, MAX_CLEARTEXT_LEN};
 use std::ops::RangeInclusive;
 
 pub const ENC: [u8; 32] = [0x55; 32];
 pub const MAC: [u8; 32] = [0x77; 32];
 pub const CONTENT_KEY: [u8; 32] = [0x33; 32];
-pub const NONCE: [u8; 12] = [0x11; 12];
 pub const DIR_ID: &[u8] = b"e9250eb8-078d-4fc0-8835-be92a313360c";
 
-pub fn vault() -> Vault {
-    Vault::new(&ENC, &MAC, Combo::SivGcm).expect("two keys")
+/// The same vault for each program.
+pub struct Vaults {
+    pub library: skrapnefja::Vault,
+    pub second: second::vault::Vault,
 }
 
-/// A cleartext of the longest length, with a nonce for each chunk.
+impl Vaults {
+    pub fn new(combo: Combo) -> Self {
+        let same = match combo {
+            Combo::SivGcm => skrapnefja::Combo::SivGcm,
+            Combo::SivCtrmac => skrapnefja::Combo::SivCtrmac,
+        };
+        Vaults {
+            library: skrapnefja::Vault::new(&ENC, &MAC, same).expect("two keys"),
+            second: second::vault::Vault::new(&ENC, &MAC, combo).expect("two keys"),
+        }
+    }
+}
+
+/// What a file of the longest length is made of.
 pub struct Cleartext {
     pub bytes: Vec<u8>,
-    pub nonces: Vec<u8>,
+    pub header_nonce: Vec<u8>,
+    pub chunk_nonces: Vec<u8>,
 }
 
 impl Cleartext {
-    pub fn new() -> Self {
+    pub fn new(combo: Combo) -> Self {
         let mut random = Random::new(1);
         let bytes = random.bytes(MAX_CLEARTEXT_LEN as usize);
         let chunks = bytes.len().div_ceil(CHUNK_LEN);
-        let nonces = (0..chunks).flat_map(|_| random.array::<12>()).collect();
-        Cleartext { bytes, nonces }
+        Cleartext {
+            bytes,
+            header_nonce: vec![0x11; combo.nonce_len()],
+            chunk_nonces: random.bytes(chunks * combo.nonce_len()),
+        }
     }
 
-    pub fn file(&self) -> Vec<u8> {
-        let Cleartext { bytes, nonces } = self;
-        let length = vault().file_length(bytes.len() as u64);
+    pub fn file(&self, vaults: &Vaults) -> Vec<u8> {
+        let vault = &vaults.second;
+        let length = vault.file_length(self.bytes.len() as u64);
         let mut file = vec![0; length.expect("within the limit") as usize];
-        vault()
-            .write_file(&NONCE, &CONTENT_KEY, nonces, bytes, &mut file)
+        vault
+            .write_file(
+                &self.header_nonce,
+                &CONTENT_KEY,
+                &self.chunk_nonces,
+                &self.bytes,
+                &mut file,
+            )
             .expect("nothing to refuse");
         file
     }

@@ -20,14 +20,16 @@ fn wrap(keys: &[[u8; KEY_LEN]]) {
         &format!("{KEYS} keys wrapped"),
         &mut vec![vec![0; WRAPPED_KEY_LEN]; KEYS],
         |out| {
-            for (out, key) in out.iter_mut().zip(keys) {
-                assert_eq!(skrapnefja::wrap_key(&ENC, key, out), Ok(WRAPPED_KEY_LEN));
-            }
+            let wraps = out.iter_mut().zip(keys);
+            wraps
+                .map(|(out, key)| skrapnefja::wrap_key(&ENC, key, out))
+                .sum()
         },
         |out| {
-            for (out, key) in out.iter_mut().zip(keys) {
-                assert_eq!(vault::wrap_key(&ENC, key, out), Ok(WRAPPED_KEY_LEN));
-            }
+            let wraps = out.iter_mut().zip(keys);
+            wraps
+                .map(|(out, key)| vault::wrap_key(&ENC, key, out))
+                .sum()
         },
     );
 }
@@ -38,14 +40,16 @@ fn unwrap(keys: &[[u8; KEY_LEN]]) {
         &format!("{KEYS} keys unwrapped"),
         &mut vec![vec![0; KEY_LEN]; KEYS],
         |out| {
-            for (out, wrapped) in out.iter_mut().zip(&wrapped) {
-                assert_eq!(skrapnefja::unwrap_key(&ENC, wrapped, out), Ok(KEY_LEN));
-            }
+            let unwraps = out.iter_mut().zip(&wrapped);
+            unwraps
+                .map(|(out, wrapped)| skrapnefja::unwrap_key(&ENC, wrapped, out))
+                .sum()
         },
         |out| {
-            for (out, wrapped) in out.iter_mut().zip(&wrapped) {
-                assert_eq!(vault::unwrap_key(&ENC, wrapped, out), Ok(KEY_LEN));
-            }
+            let unwraps = out.iter_mut().zip(&wrapped);
+            unwraps
+                .map(|(out, wrapped)| vault::unwrap_key(&ENC, wrapped, out))
+                .sum()
         },
     );
 }

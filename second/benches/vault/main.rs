@@ -1,22 +1,26 @@
 //! Times the static library and `second` on the same inputs, and measures how
 //! much stack the library takes.
 
+mod files;
 mod inputs;
 mod keys;
 mod long_names;
+mod names;
 mod parts;
-#[expect(dead_code, reason = "only GCM is timed by itself")]
+#[expect(dead_code, reason = "only what files are made by is timed by itself")]
 #[path = "../../tests/common/primitives.rs"]
 mod primitives;
 #[path = "../../tests/common/random.rs"]
 mod random;
-#[path = "../../tests/stack/measure.rs"]
-mod stack;
+#[path = "../../tests/stack"]
+mod stack {
+    pub mod calls;
+    pub mod measure;
+}
 #[expect(dead_code, reason = "names are timed in one alphabet each")]
 #[path = "../../tests/common/text.rs"]
 mod text;
 mod time;
-mod vault;
 
 fn main() {
     println!(
@@ -27,14 +31,15 @@ fn main() {
         time::ROUNDS
     );
     println!(
-        "{:40} {:>12} {:>12} {:>7}",
+        "{:44} {:>12} {:>12} {:>7}",
         "", "library", "second", "ratio"
     );
-    vault::run();
+    files::run();
+    names::run();
     long_names::run();
     keys::run();
     println!();
     parts::run();
     println!();
-    stack::run();
+    stack::calls::run();
 }

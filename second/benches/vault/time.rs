@@ -1,32 +1,36 @@
 //! Timing.
 
+use std::fmt::Debug;
 use std::time::{Duration, Instant};
 
 pub const ROUNDS: u32 = 7;
 
-/// Times both on the buffers, and prints the times and their ratio. Fails
-/// unless the buffers are equal in the end.
-pub fn both<L, S>(
+/// Times both on the buffers, and prints the times and their ratio. Each gives
+/// how many bytes it wrote. Fails if one is refused, and unless both write as
+/// many bytes and the buffers are equal in the end.
+pub fn both<L: Debug, S: Debug>(
     name: &str,
     buffers: &mut [Vec<u8>],
-    mut library: impl FnMut(&mut [Vec<u8>]) -> L,
-    mut second: impl FnMut(&mut [Vec<u8>]) -> S,
-) where
-    L: PartialEq<S>,
-{
+    mut library: impl FnMut(&mut [Vec<u8>]) -> Result<usize, L>,
+    mut second: impl FnMut(&mut [Vec<u8>]) -> Result<usize, S>,
+) {
     let mut least = [Duration::MAX; 2];
     for _ in 0..ROUNDS {
-        let (time, lengths) = once(buffers, &mut library);
+        let (time, length) = once(buffers, &mut library);
         least[0] = least[0].min(time);
         let answers = buffers.to_vec();
-        let (time, other_lengths) = once(buffers, &mut second);
+        let (time, other_length) = once(buffers, &mut second);
         least[1] = least[1].min(time);
-        assert!(lengths == other_lengths, "{name}: different results");
+        let [length, other_length] = [
+            length.unwrap_or_else(|refusal| panic!("{name}: {refusal:?}")),
+            other_length.unwrap_or_else(|refusal| panic!("{name}: {refusal:?}")),
+        ];
+        assert_eq!(length, other_length, "{name}: different lengths");
         assert!(answers == buffers, "{name}: different answers");
     }
     let [library, second] = least.map(|time| time.as_secs_f64() * 1e3);
     let ratio = library / second;
-    println!("{name:40} {library:9.2} ms {second:9.2} ms {ratio:7.2}");
+    println!("{name:44} {library:9.2} ms {second:9.2} ms {ratio:7.2}");
 }
 
 fn once<R>(buffers: &mut [Vec<u8>], run: impl FnOnce(&mut [Vec<u8>]) -> R) -> (Duration, R) {

@@ -111,7 +111,8 @@ impl<'a> ChunkCipher<'a> {
 
 #[cfg(test)]
 mod tests {
-    use super::super::samples::{vault, COMBOS};
+    use super::super::samples::vault;
+    use super::super::Combo;
     use super::*;
     use crate::hex;
 
@@ -121,7 +122,7 @@ mod tests {
     /// Values of the stock program's tests: the master keys are zeros as well.
     #[test]
     fn stock_program() {
-        for (combo, expected) in COMBOS.into_iter().zip([
+        for (combo, expected) in Combo::ALL.into_iter().zip([
             "000000000000000000000000a6c22c5122401c017522a1ba\
              e8f02a12f71ea05222023e7bdfa5ea",
             "00000000000000000000000000000000b4f0ac14cd60fee6df24c6\
@@ -143,7 +144,7 @@ mod tests {
     /// The number has 64 bits, and each of them counts.
     #[test]
     fn number() {
-        for vault in COMBOS.map(vault) {
+        for vault in Combo::ALL.map(vault) {
             let nonce = &NONCE[..vault.combo.nonce_len()];
             let mut chunk = vec![0; 5 + vault.combo.overhead()];
             let length = vault.write_chunk(&KEY, nonce, 0, nonce, b"hello", &mut chunk);
@@ -160,7 +161,7 @@ mod tests {
     /// Each row with all that are tried after it.
     #[test]
     fn rows() {
-        for vault in COMBOS.map(vault) {
+        for vault in Combo::ALL.map(vault) {
             let (nonce, overhead) = (vault.combo.nonce_len(), vault.combo.overhead());
             for (key, header_nonce, chunk, room, refusal) in [
                 (31, nonce, overhead, 0, Refusal::KeyOrNonceSize),

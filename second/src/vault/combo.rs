@@ -2,6 +2,7 @@
 
 use super::header::PAYLOAD_LEN;
 use super::lengths::CHUNK_LEN;
+use super::Refusal;
 use crate::{ctr_hmac, gcm};
 
 /// How the contents of files are encrypted. Names are by SIV in both.
@@ -14,6 +15,23 @@ pub enum Combo {
 }
 
 impl Combo {
+    pub const ALL: [Combo; 2] = [Combo::SivGcm, Combo::SivCtrmac];
+
+    /// What stands for it in the bytes of a vault.
+    pub fn number(self) -> u8 {
+        match self {
+            Combo::SivGcm => 1,
+            Combo::SivCtrmac => 2,
+        }
+    }
+
+    /// By its number (row 17).
+    pub fn of_number(number: u32) -> Result<Self, Refusal> {
+        let mut combos = Combo::ALL.into_iter();
+        let found = combos.find(|combo| u32::from(combo.number()) == number);
+        found.ok_or(Refusal::Combo)
+    }
+
     pub fn nonce_len(self) -> usize {
         match self {
             Combo::SivGcm => gcm::NONCE_LEN,
@@ -47,6 +65,18 @@ impl Combo {
 #[cfg(test)]
 mod tests {
     use super::*;
+
+    #[test]
+    fn numbers() {
+        assert_eq!(Combo::of_number(1), Ok(Combo::SivGcm));
+        assert_eq!(Combo::of_number(2), Ok(Combo::SivCtrmac));
+        for other in [0, 3, 255, 256, 257, 258, 1 << 16, u32::MAX] {
+            assert_eq!(Combo::of_number(other), Err(Refusal::Combo));
+        }
+        for combo in Combo::ALL {
+            assert_eq!(Combo::of_number(combo.number().into()), Ok(combo));
+        }
+    }
 
     #[test]
     fn sizes() {

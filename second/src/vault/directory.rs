@@ -24,13 +24,13 @@ pub fn check_id(dir_id: &[u8]) -> Result<(), Refusal> {
 
 #[cfg(test)]
 mod tests {
-    use super::super::samples::COMBOS;
+    use super::super::Combo;
     use super::*;
 
     /// A value of the stock program's tests: the root, in either combo.
     #[test]
     fn stock_program() {
-        for combo in COMBOS {
+        for combo in Combo::ALL {
             let vault = Vault::new(&[0x55; 32], &[0x77; 32], combo).expect("two keys");
             let mut out = [b'.'; PATH_LEN + 1];
             assert_eq!(vault.dir_path(b"", &mut out), Ok(PATH_LEN));

@@ -102,12 +102,12 @@ fn covering(
 #[cfg(test)]
 mod tests {
     use super::super::cipher::Cipher;
-    use super::super::samples::{cleartext, file, header_nonce, vault, COMBOS, CONTENT_KEY};
+    use super::super::samples::{cleartext, file, header_nonce, vault, CONTENT_KEY};
     use super::*;
 
     #[test]
     fn written_files_open() {
-        for vault in COMBOS.map(vault) {
+        for vault in Combo::ALL.map(vault) {
             for len in [0, 1, 32_767, 32_768, 32_769, 65_536, 65_537] {
                 let cleartext = cleartext(len);
                 let mut out = vec![0; len];
@@ -121,7 +121,7 @@ mod tests {
     #[test]
     fn ranges() {
         let cleartext = cleartext(65_540);
-        for vault in COMBOS.map(vault) {
+        for vault in Combo::ALL.map(vault) {
             let file = file(&vault, &cleartext);
             for from in [0, 1, 17, 32_767, 32_768, 65_535, 65_536, 65_540] {
                 for count in [0, 1, 2, 15, 16, 17, 32_768, 32_770, 65_540 - from] {
@@ -139,7 +139,7 @@ mod tests {
     /// Which chunks a range reads shows by the numbers of damaged ones.
     #[test]
     fn covering_chunks() {
-        for vault in COMBOS.map(vault) {
+        for vault in Combo::ALL.map(vault) {
             let mut file = file(&vault, &cleartext(65_540));
             for number in 0..3 {
                 let start = vault.combo.header_len() + number * vault.combo.stored_chunk_len();
@@ -161,7 +161,7 @@ mod tests {
 
     #[test]
     fn range_that_would_wrap() {
-        for vault in COMBOS.map(vault) {
+        for vault in Combo::ALL.map(vault) {
             let file = file(&vault, b"hello");
             for (from, count) in [(u64::MAX, 1), (1, u64::MAX), (u64::MAX, u64::MAX), (6, 0)] {
                 let read = vault.read_range(&file, from, count, &mut []);
@@ -174,7 +174,7 @@ mod tests {
     #[test]
     fn repeated_nonces() {
         let cleartext = cleartext(32_769);
-        for vault in COMBOS.map(vault) {
+        for vault in Combo::ALL.map(vault) {
             let mut file = file(&vault, &cleartext);
             let mut out = vec![7; file.len()];
             let nonce = header_nonce(&vault);

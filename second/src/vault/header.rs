@@ -81,7 +81,7 @@ pub fn open(cipher: &Cipher, header: &[u8]) -> Result<Payload, Refusal> {
 
 #[cfg(test)]
 mod tests {
-    use super::super::samples::{vault, COMBOS};
+    use super::super::samples::vault;
     use super::super::Combo;
     use super::*;
     use crate::hex;
@@ -106,7 +106,7 @@ mod tests {
     /// The tag is right, and another program wrote the reserved bytes.
     #[test]
     fn reserved_bytes() {
-        for vault in COMBOS.map(vault) {
+        for vault in Combo::ALL.map(vault) {
             let nonce = vec![5; vault.combo.nonce_len()];
             let mut header = vec![0; vault.combo.header_len()];
             for byte in 0..RESERVED_LEN {
@@ -126,7 +126,7 @@ mod tests {
     /// Each row with all that are tried after it.
     #[test]
     fn rows() {
-        for vault in COMBOS.map(vault) {
+        for vault in Combo::ALL.map(vault) {
             let (nonce, header) = (vault.combo.nonce_len(), vault.combo.header_len());
             for (nonce, key, room, refusal) in [
                 (nonce - 1, 32, 0, Refusal::KeyOrNonceSize),

@@ -33,7 +33,8 @@ impl Vault {
 
 #[cfg(test)]
 mod tests {
-    use super::super::samples::{vault, COMBOS};
+    use super::super::samples::vault;
+    use super::super::Combo;
     use super::*;
 
     #[test]
@@ -45,12 +46,12 @@ mod tests {
             (32_769, [32_893, 32_953]),
             (16_777_216, [16_791_620, 16_801_880]),
         ] {
-            for (vault, file) in COMBOS.map(vault).iter().zip(files) {
+            for (vault, file) in Combo::ALL.map(vault).iter().zip(files) {
                 assert_eq!(vault.file_length(cleartext), Ok(file));
                 assert_eq!(vault.cleartext_length(file), Ok(cleartext));
             }
         }
-        for vault in COMBOS.map(vault) {
+        for vault in Combo::ALL.map(vault) {
             assert_eq!(vault.file_length(16_777_217), Err(Refusal::Length));
             assert_eq!(vault.file_length(u64::MAX), Err(Refusal::Length));
         }
@@ -59,7 +60,7 @@ mod tests {
     /// A file length is one of the lengths that cleartexts give, or refused.
     #[test]
     fn inverse() {
-        for vault in COMBOS.map(vault) {
+        for vault in Combo::ALL.map(vault) {
             let mut next = 0;
             for cleartext in 0..=100_000 {
                 let file = vault.file_length(cleartext).expect("within the limit");
@@ -74,7 +75,7 @@ mod tests {
 
     #[test]
     fn too_long() {
-        for (vault, longest) in COMBOS.map(vault).iter().zip([16_791_620, 16_801_880]) {
+        for (vault, longest) in Combo::ALL.map(vault).iter().zip([16_791_620, 16_801_880]) {
             for file in longest + 1..=longest + 100_000 {
                 assert_eq!(vault.cleartext_length(file), Err(Refusal::Length));
             }

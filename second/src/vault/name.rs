@@ -95,7 +95,7 @@ impl Vault {
 
 #[cfg(test)]
 mod tests {
-    use super::super::samples::{self, COMBOS};
+    use super::super::samples;
     use super::super::Combo;
     use super::*;
 
@@ -177,7 +177,7 @@ mod tests {
     #[test]
     fn either_combo() {
         for name in [vec![b'n'; 146], vec![b'n'; 147]] {
-            let [gcm, ctrmac] = COMBOS.map(samples::vault).map(|vault| {
+            let [gcm, ctrmac] = Combo::ALL.map(samples::vault).map(|vault| {
                 let (mut stored, mut full) = ([0; 220], [0; 1388]);
                 let written = vault.write_name(b"id", &name, &mut stored, &mut full);
                 (written, stored, full)

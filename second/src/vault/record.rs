@@ -29,12 +29,12 @@ impl Vault {
 
 #[cfg(test)]
 mod tests {
-    use super::super::samples::{vault, COMBOS};
+    use super::super::samples::vault;
     use super::*;
 
     #[test]
     fn key_sizes() {
-        for combo in COMBOS {
+        for combo in Combo::ALL {
             for enc in 0..=64 {
                 for mac in 0..=64 {
                     let made = Vault::new(&vec![1; enc], &vec![2; mac], combo);
@@ -48,7 +48,7 @@ mod tests {
     #[test]
     fn what_it_holds() {
         let [enc, mac] = [1, 2].map(|byte| [byte; KEY_LEN]);
-        for combo in COMBOS {
+        for combo in Combo::ALL {
             let vault = Vault::new(&enc, &mac, combo).expect("two keys");
             assert_eq!((vault.enc, vault.mac, vault.combo), (enc, mac, combo));
         }
@@ -56,7 +56,7 @@ mod tests {
 
     #[test]
     fn nonce_sizes() {
-        for (combo, right) in COMBOS.into_iter().zip([12, 16]) {
+        for (combo, right) in Combo::ALL.into_iter().zip([12, 16]) {
             for len in 0..=32 {
                 let fits = vault(combo).check_nonce(&vec![3; len]).is_ok();
                 assert_eq!(fits, len == right);

@@ -3,8 +3,8 @@
 /// Why a call wrote nothing, by the rows of the table.
 #[derive(Clone, Copy, Debug, PartialEq, Eq)]
 pub enum Refusal {
-    /// A key is not 32 bytes, a nonce is not as long as the combo's, or there is
-    /// not one of these for each chunk.
+    /// A key is not 32 bytes, a nonce is not as long as the combo's, there is
+    /// not one of these for each chunk, or a vault is not 65 bytes.
     KeyOrNonceSize,
     /// The directory ID has more than 36 bytes, or one of 128 or more.
     DirectoryId,
@@ -29,6 +29,8 @@ pub enum Refusal {
     HashName,
     /// The synthetic IV is not that of the name.
     SyntheticIv,
+    /// The number of the combo is neither that of SIV_GCM nor of SIV_CTRMAC.
+    Combo,
     /// The check value of the wrapped key is wrong.
     CheckValue,
 }
@@ -48,6 +50,7 @@ impl Refusal {
             Refusal::Chunk(_) => 10,
             Refusal::HashName => 11,
             Refusal::SyntheticIv => 12,
+            Refusal::Combo => 17,
             Refusal::CheckValue => 20,
         }
     }

@@ -2,8 +2,6 @@
 
 use super::{Combo, Vault, CHUNK_LEN};
 
-pub const COMBOS: [Combo; 2] = [Combo::SivGcm, Combo::SivCtrmac];
-
 pub const CONTENT_KEY: [u8; 32] = [4; 32];
 
 pub fn vault(combo: Combo) -> Vault {

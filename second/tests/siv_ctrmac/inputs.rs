@@ -1,10 +1,9 @@
 //! All that a file is made of.
 
 use crate::common::random::Random;
-use crate::{HEADER, NONCE, OVERHEAD};
+use crate::{plain, NONCE};
 use second::vault::{Combo, Vault, CHUNK_LEN};
 
-#[derive(Clone)]
 pub struct Inputs {
     pub enc: [u8; 32],
     pub mac: [u8; 32],
@@ -28,26 +27,19 @@ impl Inputs {
         }
     }
 
-    pub fn vault(&self) -> Vault {
-        self.vault_of(Combo::SivCtrmac)
-    }
-
-    pub fn vault_of(&self, combo: Combo) -> Vault {
-        Vault::new(&self.enc, &self.mac, combo).expect("two keys")
-    }
-
-    /// As `second` writes it.
-    pub fn file(&self) -> Vec<u8> {
-        let len = HEADER + self.cleartext.len() + OVERHEAD * self.nonces.len();
-        let mut file = vec![0; len];
-        let written = self.vault().write_file(
+    /// Fails unless `second` writes the plain file.
+    pub fn check(&self) {
+        let expected = plain::file(self);
+        let vault = Vault::new(&self.enc, &self.mac, Combo::SivCtrmac).expect("two keys");
+        let mut file = vec![0; expected.len()];
+        let written = vault.write_file(
             &self.header_nonce,
             &self.content_key,
             self.nonces.as_flattened(),
             &self.cleartext,
             &mut file,
         );
-        assert_eq!(written, Ok(len));
-        file
+        assert_eq!(written, Ok(expected.len()));
+        assert!(file == expected, "another file");
     }
 }

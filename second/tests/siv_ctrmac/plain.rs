@@ -12,7 +12,7 @@ pub fn file(inputs: &Inputs) -> Vec<u8> {
     header(inputs).into_iter().chain(chunks).collect()
 }
 
-pub fn header(inputs: &Inputs) -> Vec<u8> {
+fn header(inputs: &Inputs) -> Vec<u8> {
     let payload = [&[0xff; 8][..], &inputs.content_key].concat();
     let nonce = &inputs.header_nonce;
     let sealed = [&nonce[..], &aes_ctr(&payload, &inputs.enc, nonce)].concat();
@@ -21,7 +21,7 @@ pub fn header(inputs: &Inputs) -> Vec<u8> {
 }
 
 /// The chunk of a file that has this number.
-pub fn chunk(inputs: &Inputs, number: usize) -> Vec<u8> {
+fn chunk(inputs: &Inputs, number: usize) -> Vec<u8> {
     let nonce = &inputs.nonces[number];
     let cleartext = inputs.cleartext.chunks(CHUNK_LEN).nth(number);
     let ciphertext = aes_ctr(cleartext.expect("a chunk"), &inputs.content_key, nonce);

@@ -1,7 +1,12 @@
 //! Calls, each with all that is lent to it.
 
+use crate::fault::Fault::{self, *};
+use crate::format;
+use second::vault::Combo;
+
 #[derive(Clone, Copy, Debug, PartialEq, Eq)]
 pub enum Call {
+    MakeVault,
     WriteHeader,
     OpenHeader,
     WriteChunk,
@@ -20,7 +25,8 @@ pub enum Call {
 }
 
 impl Call {
-    pub const ALL: [Call; 15] = [
+    pub const ALL: [Call; 16] = [
+        Call::MakeVault,
         Call::WriteHeader,
         Call::OpenHeader,
         Call::WriteChunk,
@@ -38,23 +44,53 @@ impl Call {
         Call::UnwrapKey,
     ];
 
-    /// The rows that the call looks at, in the order in which it tries them.
-    pub fn rows(self) -> &'static [u32] {
+    /// Whether a vault is lent to it, as its first input.
+    pub fn takes_vault(self) -> bool {
+        !matches!(self, Call::MakeVault | Call::WrapKey | Call::UnwrapKey)
+    }
+
+    /// Whether it is on names or paths.
+    pub fn is_on_names(self) -> bool {
+        matches!(
+            self,
+            Call::WriteName | Call::OpenName | Call::OpenLongName | Call::DirPath
+        )
+    }
+
+    /// The faults that the call looks for, in the order in which it does.
+    pub fn faults(self) -> &'static [Fault] {
         match self {
-            Call::WriteHeader => &[1, 7],
-            Call::OpenHeader => &[1, 4, 7, 9],
-            Call::WriteChunk => &[1, 4, 7],
-            Call::OpenChunk => &[1, 4, 7, 10],
-            Call::WriteFile => &[1, 4, 7, 8],
-            Call::OpenFile => &[1, 4, 7, 9, 10],
-            Call::ReadRange => &[1, 4, 6, 7, 9, 10],
-            Call::WriteName => &[1, 2, 3, 7],
-            Call::OpenName => &[1, 2, 5, 7, 12, 3],
-            Call::OpenLongName => &[1, 2, 5, 7, 11, 12, 3],
-            Call::DirPath => &[1, 2, 7],
-            Call::FileLength | Call::CleartextLength => &[4],
-            Call::WrapKey => &[1, 7],
-            Call::UnwrapKey => &[1, 4, 7, 20],
+            Call::MakeVault => &[KeyOrNonceSize, Room, Combo],
+            Call::WriteHeader => &[VaultSize, Combo, KeyOrNonceSize, Room],
+            Call::OpenHeader => &[VaultSize, Combo, Length, Room, Header],
+            Call::WriteChunk => &[VaultSize, Combo, KeyOrNonceSize, Length, Room],
+            Call::OpenChunk => &[VaultSize, Combo, KeyOrNonceSize, Length, Room, Chunk],
+            Call::WriteFile => &[
+                VaultSize,
+                Combo,
+                KeyOrNonceSize,
+                Length,
+                Room,
+                RepeatedNonce,
+            ],
+            Call::OpenFile => &[VaultSize, Combo, Length, Room, Header, Chunk],
+            Call::ReadRange => &[VaultSize, Combo, Length, Range, Room, Header, Chunk],
+            Call::WriteName => &[VaultSize, Combo, DirectoryId, Name, Room],
+            Call::OpenName => &[VaultSize, Combo, DirectoryId, Text, Room, SyntheticIv, Name],
+            Call::OpenLongName => &[
+                VaultSize,
+                Combo,
+                DirectoryId,
+                Text,
+                Room,
+                HashName,
+                SyntheticIv,
+                Name,
+            ],
+            Call::DirPath => &[VaultSize, Combo, DirectoryId, Room],
+            Call::FileLength | Call::CleartextLength => &[VaultSize, Combo, Length],
+            Call::WrapKey => &[KeyOrNonceSize, Room],
+            Call::UnwrapKey => &[KeyOrNonceSize, Length, Room, CheckValue],
         }
     }
 }
@@ -66,6 +102,22 @@ pub struct Case {
     pub inputs: Vec<Vec<u8>>,
     pub numbers: Vec<u64>,
     pub buffers: Vec<Vec<u8>>,
+}
+
+impl Case {
+    /// The combo that is lent, in a vault or as a number.
+    pub fn combo(&self) -> Option<Combo> {
+        match self.call {
+            Call::MakeVault => Combo::of_number(self.combo_number()).ok(),
+            Call::WrapKey | Call::UnwrapKey => None,
+            _ => format::combo_of(&self.inputs[0]),
+        }
+    }
+
+    /// What a vault is made with: the C boundary has 32 bits for it.
+    pub fn combo_number(&self) -> u32 {
+        self.numbers[0] as u32
+    }
 }
 
 /// What is there after a call.

@@ -27,7 +27,7 @@ impl Compare {
         if predicted != actual {
             panic!("{}", difference(case, &predicted, &actual));
         }
-        self.tally.count(case.call, &actual);
+        self.tally.count(case, &actual);
         actual
     }
 

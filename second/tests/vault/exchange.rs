@@ -2,14 +2,17 @@
 
 use crate::case::{Call, Case, End};
 use crate::compare::Compare;
-use crate::make::{self, LONGEST_NAME, LONGEST_PLAIN};
-use crate::{library, predict, Part};
+use crate::format::{LONGEST_NAME, LONGEST_PLAIN};
+use crate::part::Part;
+use crate::part::Run::{Each, Once};
+use crate::{library, make, predict};
+use second::vault::Combo;
 
 pub const PARTS: &[Part] = &[
-    ("exchange: files", files),
-    ("exchange: headers and chunks", headers_and_chunks),
-    ("exchange: names", names),
-    ("exchange: keys", keys),
+    ("exchange: vaults and files", Each(vaults_and_files)),
+    ("exchange: headers and chunks", Each(headers_and_chunks)),
+    ("exchange: names", Each(names)),
+    ("exchange: keys", Once(keys)),
 ];
 
 /// One of the two programs.
@@ -22,7 +25,7 @@ const WAYS: [(Program, Program); 2] = [(library::end, predict::end), (predict::e
 fn written(compare: &mut Compare, writer: Program, case: &Case) -> Vec<Vec<u8>> {
     let mut end = writer(case);
     assert_eq!(end.row, 0);
-    compare.tally.count(case.call, &end);
+    compare.tally.count(case, &end);
     end.buffers[0].truncate(end.length as usize);
     if let Some(full) = end.buffers.get_mut(1) {
         full.truncate(end.other as usize);
@@ -54,41 +57,45 @@ fn opens(
     if call == Call::OpenHeader {
         assert_eq!(end.other, u64::MAX, "the reserved bytes of our writers");
     }
-    compare.tally.count(call, &end);
+    compare.tally.count(&case, &end);
 }
 
-fn files(compare: &mut Compare) {
+/// The writer makes the vault as well.
+fn vaults_and_files(compare: &mut Compare, combo: Combo) {
     for len in [0, 1, 100, 32_767, 32_768, 32_769, 65_536, 100_000] {
         for (writer, reader) in WAYS {
-            let write = make::write_file(&mut compare.random, len);
+            let vault = make::make_vault(&mut compare.random, combo);
+            let vault = written(compare, writer, &vault).swap_remove(0);
+            let mut write = make::write_file(&mut compare.random, combo, len);
+            write.inputs[0] = vault.clone();
             let file = written(compare, writer, &write).swap_remove(0);
-            let inputs = [&write.inputs[..2], &[file]].concat();
-            opens(compare, reader, Call::OpenFile, inputs, &write.inputs[5]);
+            let inputs = vec![vault, file];
+            opens(compare, reader, Call::OpenFile, inputs, &write.inputs[4]);
         }
     }
 }
 
-fn headers_and_chunks(compare: &mut Compare) {
+fn headers_and_chunks(compare: &mut Compare, combo: Combo) {
     for len in [1, 2, 100, 32_767, 32_768] {
         for (writer, reader) in WAYS {
-            let write = make::write_header(&mut compare.random);
+            let write = make::write_header(&mut compare.random, combo);
             let header = written(compare, writer, &write).swap_remove(0);
-            let inputs = [&write.inputs[..2], &[header]].concat();
-            opens(compare, reader, Call::OpenHeader, inputs, &write.inputs[3]);
+            let inputs = vec![write.inputs[0].clone(), header];
+            opens(compare, reader, Call::OpenHeader, inputs, &write.inputs[2]);
 
-            let mut write = make::write_chunk(&mut compare.random, len);
+            let mut write = make::write_chunk(&mut compare.random, combo, len);
             write.numbers = vec![7];
             let chunk = written(compare, writer, &write).swap_remove(0);
-            let inputs = [&write.inputs[..2], &[chunk]].concat();
-            opens(compare, reader, Call::OpenChunk, inputs, &write.inputs[3]);
+            let inputs = [&write.inputs[..3], &[chunk]].concat();
+            opens(compare, reader, Call::OpenChunk, inputs, &write.inputs[4]);
         }
     }
 }
 
-fn names(compare: &mut Compare) {
+fn names(compare: &mut Compare, combo: Combo) {
     for len in 1..=LONGEST_NAME {
         for (writer, reader) in WAYS {
-            let write = make::write_name(&mut compare.random, len);
+            let write = make::write_name(&mut compare.random, combo, len);
             let mut texts = written(compare, writer, &write);
             let call = if len > LONGEST_PLAIN {
                 Call::OpenLongName
@@ -98,8 +105,8 @@ fn names(compare: &mut Compare) {
             if call == Call::OpenName {
                 texts.truncate(1);
             }
-            let inputs = [&write.inputs[..3], &texts].concat();
-            opens(compare, reader, call, inputs, &write.inputs[3]);
+            let inputs = [&write.inputs[..2], &texts].concat();
+            opens(compare, reader, call, inputs, &write.inputs[2]);
         }
     }
 }

@@ -1,71 +1,81 @@
 //! Faults: changes to a case so that a row applies.
 
 mod content;
+mod keys;
 mod names;
 mod room;
+mod vaults;
 
-use crate::case::{Call, Case};
+use crate::case::Case;
 use crate::common::random::Random;
-use crate::make;
-use second::key_wrap::INITIAL_VALUE;
 
 pub use names::stray;
 
-/// Makes a row apply to a case to which none does that is tried before it.
-/// Gives `false`, and changes nothing, if it can't: not every case has a chunk,
-/// say.
-pub fn spoil(case: &mut Case, row: u32, random: &mut Random) -> bool {
-    match row {
-        1 => key_or_nonce(case, random),
-        2 => names::directory_id(case, random),
-        3 => names::name(case, random),
-        4 => content::length(case, random),
-        5 => names::text(case, random),
-        6 => content::range(case, random),
-        7 => return room::room(case, random),
-        8 => return content::repeated_nonce(case, random),
-        9 => content::header(case, random),
-        10 => return content::chunk(case, random),
-        11 => names::hash_name(case, random),
-        12 => return names::synthetic_iv(case, random),
-        20 => check_value(case, random),
-        _ => panic!("there is no row {row}"),
-    }
-    true
+/// What can be wrong with what is lent, by the rows of the table. Row 1 is two
+/// of them: the size of a vault is looked at before its combo, and every other
+/// size after it.
+#[derive(Clone, Copy, Debug, PartialEq, Eq)]
+pub enum Fault {
+    VaultSize,
+    Combo,
+    KeyOrNonceSize,
+    DirectoryId,
+    Name,
+    Length,
+    Text,
+    Range,
+    Room,
+    RepeatedNonce,
+    Header,
+    Chunk,
+    HashName,
+    SyntheticIv,
+    CheckValue,
 }
 
-/// The inputs that are keys and nonces, and for a file its chunk nonces.
-fn key_or_nonce(case: &mut Case, random: &mut Random) {
-    let count = match case.call {
-        Call::WriteHeader => 4,
-        Call::WriteChunk => 3,
-        Call::WriteFile => 5,
-        Call::UnwrapKey => 1,
-        _ => 2,
-    };
-    let input = &mut case.inputs[random.below(count)];
-    let right = input.len();
-    let other = match random.below(4) {
-        0 => right + 1 + random.below(40),
-        1 => 2 * right + 1,
-        2 => right + 12,
-        _ if right > 0 => random.below(right),
-        _ => 12,
-    };
-    resize(input, other, random);
-}
-
-/// Another bit of the key-encryption key or of the wrapped key, or a key that
-/// was wrapped from another check value.
-fn check_value(case: &mut Case, random: &mut Random) {
-    match random.below(3) {
-        0 => flip(&mut case.inputs[0], random),
-        1 => flip(&mut case.inputs[1], random),
-        _ => {
-            let other = INITIAL_VALUE ^ 1 << random.below(64);
-            case.inputs[1] = make::wrapped_from(&case.inputs[0], other, &random.bytes(32));
+impl Fault {
+    pub fn row(self) -> u32 {
+        match self {
+            Fault::VaultSize | Fault::KeyOrNonceSize => 1,
+            Fault::DirectoryId => 2,
+            Fault::Name => 3,
+            Fault::Length => 4,
+            Fault::Text => 5,
+            Fault::Range => 6,
+            Fault::Room => 7,
+            Fault::RepeatedNonce => 8,
+            Fault::Header => 9,
+            Fault::Chunk => 10,
+            Fault::HashName => 11,
+            Fault::SyntheticIv => 12,
+            Fault::Combo => 17,
+            Fault::CheckValue => 20,
         }
     }
+}
+
+/// Makes a fault in a case that has none of those that are looked for before
+/// it. Gives `false`, and changes nothing, if it can't: not every case has a
+/// chunk, say.
+pub fn spoil(case: &mut Case, fault: Fault, random: &mut Random) -> bool {
+    match fault {
+        Fault::VaultSize => vaults::size(case, random),
+        Fault::Combo => vaults::combo(case, random),
+        Fault::KeyOrNonceSize => keys::key_or_nonce_size(case, random),
+        Fault::DirectoryId => names::directory_id(case, random),
+        Fault::Name => names::name(case, random),
+        Fault::Length => content::length(case, random),
+        Fault::Text => names::text(case, random),
+        Fault::Range => content::range(case, random),
+        Fault::Room => return room::room(case, random),
+        Fault::RepeatedNonce => return content::repeated_nonce(case, random),
+        Fault::Header => content::header(case, random),
+        Fault::Chunk => return content::chunk(case, random),
+        Fault::HashName => names::hash_name(case, random),
+        Fault::SyntheticIv => return names::synthetic_iv(case, random),
+        Fault::CheckValue => keys::check_value(case, random),
+    }
+    true
 }
 
 /// Flips one bit.

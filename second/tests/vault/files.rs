@@ -1,22 +1,25 @@
 //! Whole files.
 
-use crate::case::{Call, Case, End};
+use crate::case::{Call, Case};
 use crate::compare::Compare;
 use crate::fault::resize;
-use crate::make::{self, HEADER, MAX_CHUNK};
-use crate::Part;
+use crate::format::{self, LONGEST_CLEARTEXT};
+use crate::make;
+use crate::part::{Part, Run::Each};
+use second::vault::{Combo, CHUNK_LEN};
 
 pub const PARTS: &[Part] = &[
-    ("files: lengths at edges", edges),
-    ("files: every short length", short_lengths),
-    ("files: every bit of a short file", bits),
-    ("files: damage in every part", damage),
-    ("files: cut and extended", cut),
-    ("files: chunks in another order", moved_chunks),
-    ("files: number of nonces", nonces),
-    ("files: repeated nonces", repeated_nonces),
-    ("files: sizes of keys and buffers", sizes),
-    ("files: reserved bytes of the header", reserved),
+    ("files: lengths at edges", Each(edges)),
+    ("files: every short length", Each(short_lengths)),
+    ("files: every length around an edge", Each(around_edges)),
+    ("files: number of nonces", Each(nonces)),
+    ("files: repeated nonces", Each(repeated_nonces)),
+    (
+        "files: repeated nonces from elsewhere",
+        Each(nonces_from_elsewhere),
+    ),
+    ("files: sizes of keys and buffers", Each(sizes)),
+    ("files: reserved bytes of the header", Each(reserved)),
 ];
 
 /// Lengths of one chunk, two and three, and one byte more or less.
@@ -24,40 +27,74 @@ const EDGES: [usize; 12] = [
     0, 1, 2, 32_767, 32_768, 32_769, 65_535, 65_536, 65_537, 98_303, 98_304, 98_305,
 ];
 
-fn edges(compare: &mut Compare) {
+fn edges(compare: &mut Compare, combo: Combo) {
     for len in EDGES {
-        written_opens(compare, len);
+        written_opens(compare, combo, len);
     }
 }
 
-fn short_lengths(compare: &mut Compare) {
+fn short_lengths(compare: &mut Compare, combo: Combo) {
     for len in 0..200 {
-        written_opens(compare, len);
+        written_opens(compare, combo, len);
     }
 }
 
-fn written_opens(compare: &mut Compare, len: usize) {
-    let write = make::write_file(&mut compare.random, len);
+fn written_opens(compare: &mut Compare, combo: Combo, len: usize) {
+    let write = make::write_file(&mut compare.random, combo, len);
     assert_eq!(compare.row(&write), 0);
-    let open = make::open_file(&mut compare.random, len);
+    let open = make::open_file(&mut compare.random, combo, len);
     let end = compare.end(&open);
     assert_eq!((end.row, end.length), (0, len as u64));
 }
 
+/// Bytes of each length around those of no cleartext, of a chunk's overhead, of
+/// one chunk and of the most chunks: row 4, or the header is wrong.
+fn around_edges(compare: &mut Compare, combo: Combo) {
+    let sizes = format::sizes(combo);
+    let mut open = make::open_file(&mut compare.random, combo, 0);
+    let mut read = make::read_range(&mut compare.random, combo, 0, 0, 0);
+    let one_chunk = sizes.header + sizes.chunk;
+    let edges = [
+        sizes.header,
+        sizes.header + sizes.overhead,
+        one_chunk - sizes.overhead,
+        one_chunk,
+        one_chunk + sizes.overhead,
+    ];
+    let near = edges.into_iter().flat_map(|edge| edge - 3..=edge + 3);
+    let longest = sizes.longest_file - 1..=sizes.longest_file + 1;
+    let room = compare.random.bytes(LONGEST_CLEARTEXT);
+    for len in near.chain(longest) {
+        let behind = len.checked_sub(sizes.header);
+        let rest = behind.map(|behind| behind % sizes.chunk);
+        let fits = rest.is_some_and(|rest| rest == 0 || rest > sizes.overhead);
+        let row = if fits && len <= sizes.longest_file {
+            9
+        } else {
+            4
+        };
+        open.inputs[1] = vec![9; len];
+        read.inputs[1] = vec![9; len];
+        open.buffers = vec![room[..len.min(LONGEST_CLEARTEXT)].to_vec()];
+        assert_eq!(compare.row(&open), row, "{len}");
+        assert_eq!(compare.row(&read), row, "{len}");
+    }
+}
+
 /// Files that differ in the header's reserved bytes alone open alike, whole and
 /// in part.
-fn reserved(compare: &mut Compare) {
+fn reserved(compare: &mut Compare, combo: Combo) {
     for len in [0, 1, 40, 32_768, 40_000] {
-        let whole = make::open_file(&mut compare.random, len);
+        let whole = make::open_file(&mut compare.random, combo, len);
         let part = Case {
             call: Call::ReadRange,
             numbers: vec![len as u64 / 3, len as u64 / 2],
             ..whole.clone()
         };
         for mut case in [whole, part] {
-            let enc = case.inputs[0].clone();
+            let vault = case.inputs[0].clone();
             let mut end = |reserved: u64| {
-                make::set_reserved(&enc, &mut case.inputs[2], reserved.to_be_bytes());
+                make::set_reserved(&vault, &mut case.inputs[1], reserved.to_be_bytes());
                 compare.end(&case)
             };
             let own = end(u64::MAX);
@@ -69,160 +106,71 @@ fn reserved(compare: &mut Compare) {
     }
 }
 
-fn flipped(case: &Case, place: usize, mask: u8) -> Case {
-    let mut damaged = case.clone();
-    damaged.inputs[2][place] ^= mask;
-    damaged
-}
-
-fn bits(compare: &mut Compare) {
-    for len in [0, 1, 40] {
-        let case = make::open_file(&mut compare.random, len);
-        assert_eq!(compare.row(&case), 0);
-        for place in 0..case.inputs[2].len() {
-            for bit in 0..8 {
-                let row = compare.row(&flipped(&case, place, 1 << bit));
-                assert_eq!(row, if place < HEADER { 9 } else { 10 });
-            }
-        }
-    }
-}
-
-/// The first and last bytes of the nonce, the ciphertext and the tag, of the
-/// header and of each of three chunks; and some places between.
-fn damage(compare: &mut Compare) {
-    let len = 2 * 32_768 + 50;
-    let case = make::open_file(&mut compare.random, len);
-    let file = case.inputs[2].len();
-    let mut places = vec![0, 11, 12, 19, 20, 51, 52, HEADER - 1];
-    for start in [HEADER, HEADER + MAX_CHUNK, HEADER + 2 * MAX_CHUNK] {
-        let end = file.min(start + MAX_CHUNK);
-        places.extend([start, start + 11, start + 12, end - 17, end - 16, end - 1]);
-        places.extend((0..4).map(|_| start + compare.random.below(end - start)));
-    }
-    for place in places {
-        let damaged = flipped(&case, place, 0x10);
-        let chunk = place.checked_sub(HEADER).map(|place| place / MAX_CHUNK);
-        let End { row, other, .. } = compare.end(&damaged);
-        match chunk {
-            None => assert_eq!(row, 9),
-            Some(chunk) => assert_eq!((row, other), (10, chunk as u64)),
-        }
-        // With the last chunk damaged as well, the lowest number is given.
-        let more = flipped(&damaged, file - 20, 0x20);
-        let End { row, other, .. } = compare.end(&more);
-        match chunk {
-            None => assert_eq!(row, 9),
-            Some(chunk) => assert_eq!((row, other), (10, chunk as u64)),
-        }
-    }
-}
-
-fn cut(compare: &mut Compare) {
-    for len in [0, 1, 30] {
-        let case = make::open_file(&mut compare.random, len);
-        let file = case.inputs[2].len();
-        for cut in 0..file + 40 {
-            let mut other = case.clone();
-            resize(&mut other.inputs[2], cut, &mut compare.random);
-            resize(&mut other.buffers[0], 200, &mut compare.random);
-            let row = match cut {
-                _ if cut == file || cut == HEADER => 0,
-                0..=96 => 4,
-                _ => 10,
-            };
-            assert_eq!(compare.row(&other), row, "{len} {cut}");
-        }
-    }
-    let case = make::open_file(&mut compare.random, 32_768 + 10);
-    let second_chunk = HEADER + MAX_CHUNK;
-    for cut in second_chunk - 30..second_chunk + 45 {
-        let mut other = case.clone();
-        resize(&mut other.inputs[2], cut, &mut compare.random);
-        let End { row, other, .. } = compare.end(&other);
-        match cut - (second_chunk - 30) {
-            0..30 => assert_eq!((row, other), (10, 0)),
-            30 | 68 => assert_eq!(row, 0),
-            31..59 => assert_eq!(row, 4),
-            _ => assert!(row == 7 || (row, other) == (10, 1)),
-        }
-    }
-}
-
-fn moved_chunks(compare: &mut Compare) {
-    let case = make::open_file(&mut compare.random, 3 * 32_768);
-    let chunk = |case: &Case, i: usize| {
-        let start = HEADER + i * MAX_CHUNK;
-        case.inputs[2][start..start + MAX_CHUNK].to_vec()
-    };
-    for (order, row, at) in [
-        ([0, 1, 2], 0, None),
-        ([0, 2, 1], 10, Some(1)),
-        ([1, 0, 2], 10, Some(0)),
-        ([0, 1, 1], 10, Some(2)),
-        ([0, 0, 2], 10, Some(1)),
-    ] {
-        let mut other = case.clone();
-        other.inputs[2].truncate(HEADER);
-        for i in order {
-            other.inputs[2].extend(chunk(&case, i));
-        }
-        let end = compare.end(&other);
-        assert_eq!(end.row, row);
-        assert!(at.is_none_or(|at| at == end.other));
-    }
-    // Without the last chunk it is another file, and opens.
-    let mut shorter = case.clone();
-    shorter.inputs[2].truncate(HEADER + 2 * MAX_CHUNK);
-    let end = compare.end(&shorter);
-    assert_eq!((end.row, end.length), (0, 2 * 32_768));
-}
-
-fn nonces(compare: &mut Compare) {
+fn nonces(compare: &mut Compare, combo: Combo) {
     for len in [0, 1, 32_768, 32_769, 65_536, 65_537] {
-        let case = make::write_file(&mut compare.random, len);
-        let right = case.inputs[4].len();
-        for len in 0..60 {
+        let case = make::write_file(&mut compare.random, combo, len);
+        let right = case.inputs[3].len();
+        for len in 0..70 {
             let mut other = case.clone();
-            resize(&mut other.inputs[4], len, &mut compare.random);
+            resize(&mut other.inputs[3], len, &mut compare.random);
             assert_eq!(compare.row(&other), if len == right { 0 } else { 1 });
         }
     }
 }
 
-fn repeated_nonces(compare: &mut Compare) {
-    let case = make::write_file(&mut compare.random, 5 * 32_768);
+fn repeated_nonces(compare: &mut Compare, combo: Combo) {
+    let nonce = format::sizes(combo).nonce;
+    let case = make::write_file(&mut compare.random, combo, 5 * CHUNK_LEN);
     for one in 0..5 {
         for other in 0..one {
             let mut repeated = case.clone();
-            let (nonces, _) = repeated.inputs[4].as_chunks_mut::<12>();
-            nonces[one] = nonces[other];
+            repeated.inputs[3].copy_within(other * nonce..(other + 1) * nonce, one * nonce);
             assert_eq!(compare.row(&repeated), 8);
         }
     }
     // One bit of difference is enough, and the header's nonce may come again.
-    for byte in 0..12 {
-        let mut close = make::write_file(&mut compare.random, 32_769);
-        let header_nonce = close.inputs[2].clone();
-        close.inputs[4] = [&header_nonce[..], &header_nonce].concat();
-        close.inputs[4][12 + byte] ^= 1;
+    for byte in 0..nonce {
+        let mut close = make::write_file(&mut compare.random, combo, CHUNK_LEN + 1);
+        let header_nonce = close.inputs[1].clone();
+        close.inputs[3] = [&header_nonce[..], &header_nonce].concat();
+        close.inputs[3][nonce + byte] ^= 1;
         assert_eq!(compare.row(&close), 0);
     }
 }
 
-fn sizes(compare: &mut Compare) {
-    let write = make::write_file(&mut compare.random, 50);
-    let open = make::open_file(&mut compare.random, 50);
-    for (case, keys, need) in [(write, 4, 146), (open, 2, 50)] {
-        for input in 0..keys {
-            for len in 0..50 {
+/// A file that another program wrote, with one nonce in two chunks, opens.
+fn nonces_from_elsewhere(compare: &mut Compare, combo: Combo) {
+    let sizes = format::sizes(combo);
+    let mut write = make::write_file(&mut compare.random, combo, CHUNK_LEN + 40);
+    let mut open = make::open_written_file(&mut compare.random, &write);
+    // With exchanged nonces, the second chunk has that of the first.
+    write.inputs[3].rotate_left(sizes.nonce);
+    let other = make::open_written_file(&mut compare.random, &write);
+    let second = sizes.header + sizes.chunk;
+    open.inputs[1].truncate(second);
+    open.inputs[1].extend(&other.inputs[1][second..]);
+
+    let end = compare.end(&open);
+    assert_eq!((end.row, end.length), (0, write.inputs[4].len() as u64));
+    assert!(
+        end.buffers[0].starts_with(&write.inputs[4]),
+        "another cleartext"
+    );
+}
+
+fn sizes(compare: &mut Compare, combo: Combo) {
+    let write = make::write_file(&mut compare.random, combo, 50);
+    let open = make::open_file(&mut compare.random, combo, 50);
+    for (case, sized, need) in [(write, 4, format::sizes(combo).file(50)), (open, 1, 50)] {
+        for input in 0..sized {
+            for len in 0..80 {
                 let mut other = case.clone();
                 resize(&mut other.inputs[input], len, &mut compare.random);
                 let right = len == case.inputs[input].len();
                 assert_eq!(compare.row(&other), if right { 0 } else { 1 });
             }
         }
-        for len in 0..160 {
+        for len in 0..200 {
             let mut other = case.clone();
             resize(&mut other.buffers[0], len, &mut compare.random);
             assert_eq!(compare.row(&other), if len < need { 7 } else { 0 });

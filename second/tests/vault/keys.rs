@@ -4,18 +4,19 @@ use crate::case::Case;
 use crate::common::fields::{bytes, lines};
 use crate::compare::Compare;
 use crate::fault::resize;
-use crate::make::{self, WRAPPED_KEY};
-use crate::{known, Part};
+use crate::format::WRAPPED_KEY;
+use crate::part::{Part, Run::Once};
+use crate::{known, make};
 use second::key_wrap::INITIAL_VALUE;
 
 pub const PARTS: &[Part] = &[
-    ("keys: every bit", bits),
-    ("keys: every size", sizes),
-    ("keys: wrapped and unwrapped", there_and_back),
-    ("keys: other check values", check_values),
-    ("keys: registers in another order", moved_registers),
-    ("keys: random bytes", random_bytes),
-    ("keys: published vectors", vectors),
+    ("keys: every bit", Once(bits)),
+    ("keys: every size", Once(sizes)),
+    ("keys: wrapped and unwrapped", Once(there_and_back)),
+    ("keys: other check values", Once(check_values)),
+    ("keys: registers in another order", Once(moved_registers)),
+    ("keys: random bytes", Once(random_bytes)),
+    ("keys: published vectors", Once(vectors)),
 ];
 
 /// Row 20, and the buffer is as it was.

@@ -3,25 +3,26 @@
 use crate::case::{Call, Case};
 use crate::compare::Compare;
 
-/// The header of two master keys, a nonce and a content key.
-pub fn header(compare: &mut Compare, inputs: [Vec<u8>; 4], header: Vec<u8>) {
+/// The header of a vault, a nonce and a content key.
+pub fn header(compare: &mut Compare, inputs: [Vec<u8>; 3], header: Vec<u8>) {
     fills(compare, Call::WriteHeader, &inputs, &[], &[&header]);
-    let [enc, mac, _, content_key] = inputs;
-    let inputs = [enc, mac, header];
+    let [vault, _, content_key] = inputs;
+    let inputs = [vault, header];
     fills(compare, Call::OpenHeader, &inputs, &[], &[&content_key]);
 }
 
-/// The chunk of a content key, the header's nonce, its own, and a cleartext.
-pub fn chunk(compare: &mut Compare, inputs: [Vec<u8>; 4], number: u64, chunk: Vec<u8>) {
+/// The chunk of a vault, a content key, the header's nonce, its own, and a
+/// cleartext.
+pub fn chunk(compare: &mut Compare, inputs: [Vec<u8>; 5], number: u64, chunk: Vec<u8>) {
     fills(compare, Call::WriteChunk, &inputs, &[number], &[&chunk]);
-    let [content_key, header_nonce, _, cleartext] = inputs;
-    let inputs = [content_key, header_nonce, chunk];
+    let [vault, content_key, header_nonce, _, cleartext] = inputs;
+    let inputs = [vault, content_key, header_nonce, chunk];
     fills(compare, Call::OpenChunk, &inputs, &[number], &[&cleartext]);
 }
 
-/// The full name, or the hash name and the full name, of two master keys, a
-/// directory ID and a name.
-pub fn name(compare: &mut Compare, inputs: [Vec<u8>; 4], texts: &[&str]) {
+/// The full name, or the hash name and the full name, of a vault, a directory
+/// ID and a name.
+pub fn name(compare: &mut Compare, inputs: [Vec<u8>; 3], texts: &[&str]) {
     let answers = match *texts {
         [full] => [full, ""],
         [hash, full] => [hash, full],
@@ -30,27 +31,27 @@ pub fn name(compare: &mut Compare, inputs: [Vec<u8>; 4], texts: &[&str]) {
     let answers = answers.map(str::as_bytes);
     fills(compare, Call::WriteName, &inputs, &[], &answers);
     let (call, opened) = opening(&inputs, texts);
-    fills(compare, call, &opened, &[], &[&inputs[3]]);
+    fills(compare, call, &opened, &[], &[&inputs[2]]);
 }
 
 /// The same of bytes that are not text: row 3, and in another directory row 12.
-pub fn not_text(compare: &mut Compare, inputs: [Vec<u8>; 4], texts: &[&str]) {
+pub fn not_text(compare: &mut Compare, inputs: [Vec<u8>; 3], texts: &[&str]) {
     let (call, mut opened) = opening(&inputs, texts);
     let sizes = [220, 1388];
     assert_eq!(row(compare, Call::WriteName, &inputs, &sizes), 3);
     assert_eq!(row(compare, call, &opened, &sizes[1..]), 3);
-    opened[2] = vec![];
+    opened[1] = vec![];
     assert_eq!(row(compare, call, &opened, &sizes[1..]), 12);
 }
 
 /// The call that opens these texts, and its inputs.
-fn opening([enc, mac, id, _]: &[Vec<u8>; 4], texts: &[&str]) -> (Call, Vec<Vec<u8>>) {
+fn opening([vault, id, _]: &[Vec<u8>; 3], texts: &[&str]) -> (Call, Vec<Vec<u8>>) {
     let call = match texts.len() {
         1 => Call::OpenName,
         _ => Call::OpenLongName,
     };
     let texts = texts.iter().map(|text| text.as_bytes().to_vec());
-    let directory = [enc, mac, id].map(Clone::clone);
+    let directory = [vault, id].map(Clone::clone);
     (call, directory.into_iter().chain(texts).collect())
 }
 
@@ -64,8 +65,8 @@ fn row(compare: &mut Compare, call: Call, inputs: &[Vec<u8>], sizes: &[usize]) -
     })
 }
 
-/// The path of two master keys and a directory ID.
-pub fn path(compare: &mut Compare, inputs: [Vec<u8>; 3], path: &str) {
+/// The path of a vault and a directory ID.
+pub fn path(compare: &mut Compare, inputs: [Vec<u8>; 2], path: &str) {
     fills(compare, Call::DirPath, &inputs, &[], &[path.as_bytes()]);
 }
 

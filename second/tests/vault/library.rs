@@ -18,16 +18,12 @@ pub fn end(case: &Case) -> End {
     let [before, length, between, other, after] = &mut results;
     let row = run(
         case,
-        &inputs
-            .iter_mut()
-            .map(|slice| inside(slice))
-            .collect::<Vec<_>>(),
-        &mut buffers
-            .iter_mut()
-            .map(|slice| inside(slice))
-            .collect::<Vec<_>>(),
-        length,
-        other,
+        Lent {
+            inputs: &inside(&mut inputs),
+            buffers: &mut inside(&mut buffers),
+            length,
+            other,
+        },
     );
     assert_eq!([*before, *between, *after], [GUARD_WORD; 3]);
     for (later, slice) in inputs.iter().zip(&case.inputs) {
@@ -48,9 +44,14 @@ fn guarded(slice: &[u8]) -> Vec<u8> {
     [&GUARD, slice, &GUARD].concat()
 }
 
-fn inside(guarded: &mut [u8]) -> &mut [u8] {
-    let end = guarded.len() - GUARD.len();
-    &mut guarded[GUARD.len()..end]
+/// The slices between the guards.
+fn inside(guarded: &mut [Vec<u8>]) -> Vec<&mut [u8]> {
+    let inside = |slice| {
+        let slice: &mut Vec<u8> = slice;
+        let end = slice.len() - GUARD.len();
+        &mut slice[GUARD.len()..end]
+    };
+    guarded.iter_mut().map(inside).collect()
 }
 
 /// The slice between the guards, which must be as they were.
@@ -61,72 +62,112 @@ fn inside_of(guarded: &[u8]) -> &[u8] {
     inside.strip_suffix(&GUARD).expect("changed after a slice")
 }
 
-fn run(
-    case: &Case,
-    inputs: &[&mut [u8]],
-    buffers: &mut [&mut [u8]],
-    length: &mut u64,
-    other: &mut u64,
-) -> u32 {
-    // SAFETY: each pointer is that of a slice, with its length, or of a number,
-    // and no two of them overlap.
+/// What a call is lent beside numbers: no two of these overlap.
+struct Lent<'a, 'b> {
+    inputs: &'a [&'b mut [u8]],
+    buffers: &'a mut [&'b mut [u8]],
+    length: &'a mut u64,
+    other: &'a mut u64,
+}
+
+fn run(case: &Case, lent: Lent) -> u32 {
+    match case.call {
+        call if call.is_on_names() => names(call, lent),
+        Call::MakeVault | Call::WrapKey | Call::UnwrapKey => keys(case, lent),
+        Call::FileLength | Call::CleartextLength => lengths(case, lent),
+        _ => content(case, lent),
+    }
+}
+
+fn content(case: &Case, lent: Lent) -> u32 {
+    let (length, other) = (lent.length, lent.other);
+    // SAFETY: each pointer is that of a slice, with its length, or of a number.
     unsafe {
-        match (case.call, inputs, &case.numbers[..], buffers) {
-            (Call::WriteHeader, [enc, mac, nonce, content_key], [], [out]) => {
+        match (case.call, lent.inputs, &case.numbers[..], lent.buffers) {
+            (Call::WriteHeader, [vault, nonce, content_key], [], [out]) => {
                 call!(skrapnefja_write_header:
-                    in enc, in mac, in nonce, in content_key, out out, val length,)
+                    in vault, in nonce, in content_key, out out, val length,)
             }
-            (Call::OpenHeader, [enc, mac, header], [], [out]) => {
+            (Call::OpenHeader, [vault, header], [], [out]) => {
                 call!(skrapnefja_open_header:
-                    in enc, in mac, in header, out out, val length, val other,)
+                    in vault, in header, out out, val length, val other,)
             }
-            (Call::WriteChunk, [content_key, header_nonce, nonce, cleartext], &[number], [out]) => {
+            (Call::WriteChunk, [vault, key, header_nonce, nonce, cleartext], &[number], [out]) => {
                 call!(skrapnefja_write_chunk:
-                    in content_key, in header_nonce, val number, in nonce, in cleartext,
+                    in vault, in key, in header_nonce, val number, in nonce, in cleartext,
                     out out, val length,)
             }
-            (Call::OpenChunk, [content_key, header_nonce, chunk], &[number], [out]) => {
+            (Call::OpenChunk, [vault, key, header_nonce, chunk], &[number], [out]) => {
                 call!(skrapnefja_open_chunk:
-                    in content_key, in header_nonce, val number, in chunk,
+                    in vault, in key, in header_nonce, val number, in chunk,
                     out out, val length, val other,)
             }
-            (
-                Call::WriteFile,
-                [enc, mac, header_nonce, content_key, nonces, cleartext],
-                [],
-                [out],
-            ) => {
+            (Call::WriteFile, [vault, header_nonce, key, nonces, cleartext], [], [out]) => {
                 call!(skrapnefja_write_file:
-                    in enc, in mac, in header_nonce, in content_key, in nonces, in cleartext,
+                    in vault, in header_nonce, in key, in nonces, in cleartext,
                     out out, val length,)
             }
-            (Call::OpenFile, [enc, mac, file], [], [out]) => {
-                call!(skrapnefja_open_file: in enc, in mac, in file, out out, val length, val other,)
+            (Call::OpenFile, [vault, file], [], [out]) => {
+                call!(skrapnefja_open_file: in vault, in file, out out, val length, val other,)
             }
-            (Call::ReadRange, [enc, mac, file], &[from, count], [out]) => {
+            (Call::ReadRange, [vault, file], &[from, count], [out]) => {
                 call!(skrapnefja_read_range:
-                    in enc, in mac, in file, val from, val count, out out, val length, val other,)
+                    in vault, in file, val from, val count, out out, val length, val other,)
             }
-            (Call::WriteName, [enc, mac, dir_id, name], [], [stored, full]) => {
+            _ => panic!("not what {:?} takes", case.call),
+        }
+    }
+}
+
+fn names(call: Call, lent: Lent) -> u32 {
+    let (length, other) = (lent.length, lent.other);
+    // SAFETY: as for content.
+    unsafe {
+        match (call, lent.inputs, lent.buffers) {
+            (Call::WriteName, [vault, dir_id, name], [stored, full]) => {
                 call!(skrapnefja_write_name:
-                    in enc, in mac, in dir_id, in name, out stored, out full, val length, val other,)
+                    in vault, in dir_id, in name, out stored, out full, val length, val other,)
             }
-            (Call::OpenName, [enc, mac, dir_id, stored], [], [out]) => {
+            (Call::OpenName, [vault, dir_id, stored], [out]) => {
                 call!(skrapnefja_open_name:
-                    in enc, in mac, in dir_id, in stored, out out, val length,)
+                    in vault, in dir_id, in stored, out out, val length,)
             }
-            (Call::OpenLongName, [enc, mac, dir_id, stored, full], [], [out]) => {
+            (Call::OpenLongName, [vault, dir_id, stored, full], [out]) => {
                 call!(skrapnefja_open_long_name:
-                    in enc, in mac, in dir_id, in stored, in full, out out, val length,)
+                    in vault, in dir_id, in stored, in full, out out, val length,)
             }
-            (Call::DirPath, [enc, mac, dir_id], [], [out]) => {
-                call!(skrapnefja_dir_path: in enc, in mac, in dir_id, out out, val length,)
+            (Call::DirPath, [vault, dir_id], [out]) => {
+                call!(skrapnefja_dir_path: in vault, in dir_id, out out, val length,)
             }
-            (Call::FileLength, [], &[number], []) => {
-                call!(skrapnefja_file_length: val number, val length,)
+            _ => panic!("not what {call:?} takes"),
+        }
+    }
+}
+
+fn lengths(case: &Case, lent: Lent) -> u32 {
+    let length = lent.length;
+    // SAFETY: as for content.
+    unsafe {
+        match (case.call, lent.inputs, &case.numbers[..], lent.buffers) {
+            (Call::FileLength, [vault], &[number], []) => {
+                call!(skrapnefja_file_length: in vault, val number, val length,)
             }
-            (Call::CleartextLength, [], &[number], []) => {
-                call!(skrapnefja_cleartext_length: val number, val length,)
+            (Call::CleartextLength, [vault], &[number], []) => {
+                call!(skrapnefja_cleartext_length: in vault, val number, val length,)
+            }
+            _ => panic!("not what {:?} takes", case.call),
+        }
+    }
+}
+
+fn keys(case: &Case, lent: Lent) -> u32 {
+    let length = lent.length;
+    // SAFETY: as for content.
+    unsafe {
+        match (case.call, lent.inputs, &case.numbers[..], lent.buffers) {
+            (Call::MakeVault, [enc, mac], [_], [out]) => {
+                let combo = case.combo_number();
+                call!(skrapnefja_make_vault: in enc, in mac, val combo, out out, val length,)
             }
             (Call::WrapKey, [kek, key], [], [out]) => {
                 call!(skrapnefja_wrap_key: in kek, in key, out out, val length,)

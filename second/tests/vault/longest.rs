@@ -2,40 +2,41 @@
 
 use crate::case::{Call, End};
 use crate::compare::Compare;
-use crate::make::{self, HEADER, MAX_CHUNK};
-use crate::Part;
+use crate::format::{sizes, LONGEST_CLEARTEXT};
+use crate::make;
+use crate::part::{Part, Run::Each};
+use second::vault::Combo;
 
 pub const PARTS: &[Part] = &[
-    ("the longest file is written", written),
-    ("the longest file is opened", opened),
-    ("one byte more than the longest", one_more),
+    ("the longest file is written", Each(written)),
+    ("the longest file is opened", Each(opened)),
+    ("one byte more than the longest", Each(one_more)),
 ];
 
-const LONGEST: usize = 16_777_216;
-const LONGEST_FILE: u64 = 16_791_620;
-
-fn written(compare: &mut Compare) {
-    let case = make::write_file(&mut compare.random, LONGEST);
+fn written(compare: &mut Compare, combo: Combo) {
+    let case = make::write_file(&mut compare.random, combo, LONGEST_CLEARTEXT);
     let End { row, length, .. } = compare.end(&case);
-    assert_eq!((row, length), (0, LONGEST_FILE));
+    assert_eq!((row, length), (0, sizes(combo).longest_file as u64));
     // The last nonce is that of the first chunk.
     let mut repeated = case;
-    let (nonces, _) = repeated.inputs[4].as_chunks_mut::<12>();
-    nonces[511] = nonces[0];
+    let nonce = sizes(combo).nonce;
+    repeated.inputs[3].copy_within(..nonce, 511 * nonce);
     assert_eq!(compare.row(&repeated), 8);
+    repeated.buffers[0].truncate(sizes(combo).longest_file - 1);
+    assert_eq!(compare.row(&repeated), 7);
 }
 
-fn opened(compare: &mut Compare) {
-    let mut case = make::open_file(&mut compare.random, LONGEST);
+fn opened(compare: &mut Compare, combo: Combo) {
+    let mut case = make::open_file(&mut compare.random, combo, LONGEST_CLEARTEXT);
     let End { row, length, .. } = compare.end(&case);
-    assert_eq!((row, length), (0, LONGEST as u64));
+    assert_eq!((row, length), (0, LONGEST_CLEARTEXT as u64));
 
-    case.inputs[2][HEADER + 511 * MAX_CHUNK + 100] ^= 4;
+    case.inputs[1][sizes(combo).header + 511 * sizes(combo).chunk + 100] ^= 4;
     let End { row, other, .. } = compare.end(&case);
     assert_eq!((row, other), (10, 511));
 
     case.call = Call::ReadRange;
-    let end = LONGEST as u64;
+    let end = LONGEST_CLEARTEXT as u64;
     for (from, count, expected) in [
         (end, 0, 0),
         (end - 32_769, 1, 0),
@@ -49,17 +50,18 @@ fn opened(compare: &mut Compare) {
     }
 }
 
-fn one_more(compare: &mut Compare) {
-    let mut write = make::write_file(&mut compare.random, 1);
-    write.inputs[5] = vec![1; LONGEST + 1];
-    write.inputs[4] = compare.random.bytes(513 * 12);
+fn one_more(compare: &mut Compare, combo: Combo) {
+    let sizes = sizes(combo);
+    let mut write = make::write_file(&mut compare.random, combo, 1);
+    write.inputs[4] = vec![1; LONGEST_CLEARTEXT + 1];
+    write.inputs[3] = compare.random.bytes(513 * sizes.nonce);
     assert_eq!(compare.row(&write), 4);
-    write.inputs[4].truncate(512 * 12);
+    write.inputs[3].truncate(512 * sizes.nonce);
     assert_eq!(compare.row(&write), 1);
 
-    let mut open = make::open_file(&mut compare.random, 0);
-    for more in [1, 28, 29, MAX_CHUNK] {
-        open.inputs[2].resize(LONGEST_FILE as usize + more, 0);
+    let mut open = make::open_file(&mut compare.random, combo, 0);
+    for more in [1, sizes.overhead, sizes.overhead + 1, sizes.chunk] {
+        open.inputs[1].resize(sizes.longest_file + more, 0);
         assert_eq!(compare.row(&open), 4);
     }
 }

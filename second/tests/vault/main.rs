@@ -1,8 +1,9 @@
 //! Compares the static library with `second` through the C boundary: the row
 //! or success of each call, its numbers, and every byte of its buffers.
 //!
-//! The parts run side by side. At the end each call must have been done and
-//! must have given each of its rows. The environment can set
+//! The parts run side by side, most of them with each combo. At the end each
+//! call must have been done and must have given each of its rows, with each
+//! combo. The environment can set
 //! - `SEED`, the number from which all random choices follow;
 //! - `CALLS`, how many random calls are made beside the parts;
 //! - `FIRST`, the number of the first of them, to make one again that failed.
@@ -19,10 +20,13 @@ mod common {
 mod case;
 mod chunks;
 mod compare;
+mod counters;
 mod distinct;
 mod exchange;
 mod fault;
+mod file_damage;
 mod files;
+mod format;
 mod headers;
 mod keys;
 mod known;
@@ -32,6 +36,8 @@ mod longest;
 mod make;
 mod names;
 mod order;
+mod other_combo;
+mod part;
 mod points;
 mod predict;
 mod proper_text;
@@ -40,8 +46,10 @@ mod ranges;
 mod stock_program;
 mod tally;
 mod texts;
+mod vaults;
 
 use compare::Compare;
+use part::{Job, Part};
 use std::num::NonZero;
 use std::process::ExitCode;
 use std::sync::atomic::{AtomicUsize, Ordering};
@@ -50,11 +58,10 @@ use std::time::Instant;
 use std::{env, panic, thread};
 use tally::Tally;
 
-type Part = (&'static str, fn(&mut Compare));
-
-const PARTS: [&[Part]; 15] = [
+const PARTS: [&[Part]; 19] = [
     longest::PARTS,
     files::PARTS,
+    file_damage::PARTS,
     ranges::PARTS,
     chunks::PARTS,
     texts::PARTS,
@@ -63,6 +70,9 @@ const PARTS: [&[Part]; 15] = [
     order::PARTS,
     exchange::PARTS,
     headers::PARTS,
+    vaults::PARTS,
+    other_combo::PARTS,
+    counters::PARTS,
     keys::PARTS,
     lengths::PARTS,
     points::PARTS,
@@ -76,18 +86,18 @@ const LEAST: u64 = 100_000;
 fn main() -> ExitCode {
     let seed = number("SEED", 1);
     let first = number("FIRST", 0);
-    let calls = number("CALLS", 100_000);
+    let calls = number("CALLS", 200_000);
     let filters: Vec<_> = env::args()
         .skip(1)
         .filter(|arg| !arg.starts_with('-'))
         .collect();
     let wanted = |name: &str| filters.is_empty() || filters.iter().any(|part| name.contains(part));
-    let mut parts = PARTS.concat();
-    parts.retain(|(name, _)| wanted(name));
+    let mut jobs: Vec<_> = PARTS.concat().into_iter().flat_map(part::jobs).collect();
+    jobs.retain(|job| wanted(&job.name));
     println!("SEED={seed} FIRST={first} CALLS={calls}");
 
     let mut tally = Tally::default();
-    let mut failed = run(&parts, seed, &mut tally);
+    let mut failed = run(&jobs, seed, &mut tally);
     if wanted("random calls") {
         failed |= !random_calls::run(seed, first..first.saturating_add(calls), &mut tally);
     }
@@ -120,21 +130,21 @@ fn threads() -> usize {
 fn report(name: &str, calls: u64, start: Instant, ok: bool) {
     let time = start.elapsed().as_secs_f64();
     let verdict = if ok { "ok" } else { "FAILED" };
-    println!("{name:45} {calls:>7} calls {time:>6.1} s {verdict}");
+    println!("{name:57} {calls:>7} calls {time:>6.1} s {verdict}");
 }
 
-/// Runs the parts, and gives whether one failed.
-fn run(parts: &[Part], seed: u64, tally: &mut Tally) -> bool {
+/// Does the jobs, and gives whether one failed.
+fn run(jobs: &[Job], seed: u64, tally: &mut Tally) -> bool {
     let next = AtomicUsize::new(0);
     let failed = AtomicUsize::new(0);
     let tally = Mutex::new(tally);
     let work = || {
-        while let Some((name, part)) = parts.get(next.fetch_add(1, Ordering::Relaxed)) {
+        while let Some(job) = jobs.get(next.fetch_add(1, Ordering::Relaxed)) {
             let start = Instant::now();
             let mut compare = Compare::new(seed);
-            let outcome = panic::catch_unwind(panic::AssertUnwindSafe(|| part(&mut compare)));
+            let outcome = panic::catch_unwind(panic::AssertUnwindSafe(|| (job.run)(&mut compare)));
             failed.fetch_add(usize::from(outcome.is_err()), Ordering::Relaxed);
-            report(name, compare.tally.total(), start, outcome.is_ok());
+            report(&job.name, compare.tally.total(), start, outcome.is_ok());
             tally.lock().expect("no panic with it").add(&compare.tally);
         }
     };

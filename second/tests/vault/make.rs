@@ -3,82 +3,89 @@
 mod content;
 mod keys;
 mod names;
+mod nonces;
 mod sizes;
+mod vaults;
 
 use crate::case::{Call, Case};
 use crate::common::random::Random;
-use second::vault::{Combo, Vault, CHUNK_LEN};
+use crate::format::{self, LONGEST_CLEARTEXT, LONGEST_PLAIN};
+use second::vault::Combo;
 
 pub use content::*;
 pub use keys::*;
 pub use names::*;
+pub use nonces::*;
 use sizes::{chunk_len, file_len, name_len, range};
+pub use vaults::*;
 
-pub const MAX_CHUNK: usize = CHUNK_LEN + 28;
-pub const HEADER: usize = 68;
-pub const LONGEST_PLAIN: usize = 146;
-pub const LONGEST_NAME: usize = 1020;
-pub const LONGEST_FULL_NAME: usize = 1388;
-pub const WRAPPED_KEY: usize = 40;
-
-pub fn case(call: Call, random: &mut Random) -> Case {
+pub fn case(call: Call, random: &mut Random, combo: Combo) -> Case {
     match call {
-        Call::WriteHeader => write_header(random),
-        Call::OpenHeader => open_header(random),
+        Call::MakeVault => make_vault(random, combo),
+        Call::WriteHeader => write_header(random, combo),
+        Call::OpenHeader => open_header(random, combo),
         Call::WriteChunk => {
             let len = chunk_len(random);
-            write_chunk(random, len)
+            write_chunk(random, combo, len)
         }
         Call::OpenChunk => {
             let len = chunk_len(random);
-            open_chunk(random, len)
+            open_chunk(random, combo, len)
         }
         Call::WriteFile => {
             let len = file_len(random);
-            write_file(random, len)
+            write_file(random, combo, len)
         }
         Call::OpenFile => {
             let len = file_len(random);
-            open_file(random, len)
+            open_file(random, combo, len)
         }
         Call::ReadRange => {
             let len = file_len(random);
             let (from, count) = range(random, len);
-            read_range(random, len, from, count)
+            read_range(random, combo, len, from, count)
         }
-        Call::WriteName => {
-            let len = name_len(random, 1);
-            write_name(random, len)
-        }
-        Call::OpenName => {
-            let len = 1 + random.below(LONGEST_PLAIN);
-            open_name(random, len)
-        }
-        Call::OpenLongName => {
-            let len = name_len(random, LONGEST_PLAIN + 1);
-            open_long_name(random, len)
-        }
-        Call::DirPath => dir_path(random),
-        Call::FileLength => number(call, random.below(16_777_217) as u64),
-        Call::CleartextLength => {
-            let length = any_vault().file_length(random.below(16_777_217) as u64);
-            number(call, length.expect("within the limit"))
-        }
+        Call::WriteName | Call::OpenName | Call::OpenLongName => on_name(call, random, combo),
+        Call::DirPath => dir_path(random, combo),
+        Call::FileLength | Call::CleartextLength => on_length(call, random, combo),
         Call::WrapKey => wrap_key(random),
         Call::UnwrapKey => unwrap_key(random),
     }
 }
 
-/// A vault for the calls that take no key of it.
-pub fn any_vault() -> Vault {
-    Vault::new(&[0; 32], &[0; 32], Combo::SivGcm).expect("two keys")
+fn on_name(call: Call, random: &mut Random, combo: Combo) -> Case {
+    match call {
+        Call::OpenName => {
+            let len = 1 + random.below(LONGEST_PLAIN);
+            open_name(random, combo, len)
+        }
+        Call::OpenLongName => {
+            let len = name_len(random, LONGEST_PLAIN + 1);
+            open_long_name(random, combo, len)
+        }
+        _ => {
+            let len = name_len(random, 1);
+            write_name(random, combo, len)
+        }
+    }
 }
 
-pub fn number(call: Call, number: u64) -> Case {
+fn on_length(call: Call, random: &mut Random, combo: Combo) -> Case {
+    let cleartext = random.below(LONGEST_CLEARTEXT + 1);
+    let length = match call {
+        Call::FileLength => cleartext,
+        _ => format::sizes(combo).file(cleartext),
+    };
+    let vault = vault(random, combo);
+    with_length(call, &vault, length as u64)
+}
+
+/// A call on a length.
+pub fn with_length(call: Call, vault: &[u8], length: u64) -> Case {
     Case {
         call,
-        inputs: vec![],
-        numbers: vec![number],
+        inputs: vec![vault.to_vec()],
+        numbers: vec![length],
         buffers: vec![],
     }
 }

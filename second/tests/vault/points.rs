@@ -3,27 +3,36 @@
 use crate::case::{Call, Case, End};
 use crate::common::random::Random;
 use crate::compare::Compare;
-use crate::make::{self, full_name, number};
-use crate::Part;
+use crate::format::sizes;
+use crate::make::{self, full_name, with_length};
+use crate::part::{Part, Run::Each};
+use second::vault::Combo;
 
 pub const PARTS: &[Part] = &[
     (
         "point: names of 1 and 1,020 bytes",
-        shortest_and_longest_name,
+        Each(shortest_and_longest_name),
     ),
     (
         "point: names of 0 and 1,021 bytes",
-        no_name_and_too_long_a_name,
+        Each(no_name_and_too_long_a_name),
     ),
-    ("point: directory IDs of 36 and 37 bytes", id_lengths),
-    ("point: directory IDs with byte 127 or 128", id_bytes),
-    ("point: file lengths that are refused", refused_file_lengths),
-    ("point: text that decodes to 16 bytes", sixteen_bytes),
-    ("point: text of 1,036 or 1,037 bytes", longest_text),
-    ("point: from at its largest, count 1", largest_from),
-    ("point: count at its largest, from 1", largest_count),
-    ("point: from at the end, count 0", empty_range_at_end),
-    ("point: wrong key and broken length", key_before_length),
+    ("point: directory IDs of 36 and 37 bytes", Each(id_lengths)),
+    ("point: directory IDs with byte 127 or 128", Each(id_bytes)),
+    ("point: file lengths", Each(file_lengths)),
+    (
+        "point: file lengths that are refused",
+        Each(refused_file_lengths),
+    ),
+    ("point: text that decodes to 16 bytes", Each(sixteen_bytes)),
+    ("point: text of 1,036 or 1,037 bytes", Each(longest_text)),
+    ("point: from at its largest, count 1", Each(largest_from)),
+    ("point: count at its largest, from 1", Each(largest_count)),
+    ("point: from at the end, count 0", Each(empty_range_at_end)),
+    (
+        "point: wrong key and broken length",
+        Each(key_before_length),
+    ),
 ];
 
 /// The lengths of the cleartexts whose ranges are read.
@@ -31,9 +40,9 @@ const CLEARTEXTS: [usize; 4] = [0, 1, 32_768, 40_000];
 
 /// Full names of 28 and 1,388 characters; the second is stored as its hash
 /// name. Both open again.
-fn shortest_and_longest_name(compare: &mut Compare) {
+fn shortest_and_longest_name(compare: &mut Compare, combo: Combo) {
     for (len, lengths) in [(1, (28, 0)), (1020, (32, 1388))] {
-        let case = make::write_name(&mut compare.random, len);
+        let case = make::write_name(&mut compare.random, combo, len);
         let End {
             row, length, other, ..
         } = compare.end(&case);
@@ -44,49 +53,49 @@ fn shortest_and_longest_name(compare: &mut Compare) {
 }
 
 /// Row 3.
-fn no_name_and_too_long_a_name(compare: &mut Compare) {
+fn no_name_and_too_long_a_name(compare: &mut Compare, combo: Combo) {
     for len in [0, 1021] {
-        let case = make::write_name(&mut compare.random, len);
+        let case = make::write_name(&mut compare.random, combo, len);
         assert_eq!(compare.row(&case), 3);
     }
 }
 
 /// 36 bytes are taken by every call that is lent an ID, and 37 are row 2.
-fn id_lengths(compare: &mut Compare) {
-    id_is_taken(compare, &[b'd'; 36]);
-    id_is_refused(compare, &[b'd'; 37]);
+fn id_lengths(compare: &mut Compare, combo: Combo) {
+    id_is_taken(compare, combo, &[b'd'; 36]);
+    id_is_refused(compare, combo, &[b'd'; 37]);
 }
 
 /// The byte 127 is taken at any place, and 128 is row 2.
-fn id_bytes(compare: &mut Compare) {
+fn id_bytes(compare: &mut Compare, combo: Combo) {
     for (len, place) in [(1, 0), (36, 0), (36, 17), (36, 35)] {
         let mut id = vec![b'd'; len];
         id[place] = 127;
-        id_is_taken(compare, &id);
+        id_is_taken(compare, combo, &id);
         id[place] = 128;
-        id_is_refused(compare, &id);
+        id_is_refused(compare, combo, &id);
     }
 }
 
-fn id_is_taken(compare: &mut Compare, id: &[u8]) {
-    for case in calls_in(&mut compare.random, id) {
+fn id_is_taken(compare: &mut Compare, combo: Combo, id: &[u8]) {
+    for case in calls_in(&mut compare.random, combo, id) {
         assert_eq!(compare.row(&case), 0, "{:?}", case.call);
     }
 }
 
-fn id_is_refused(compare: &mut Compare, id: &[u8]) {
-    for mut case in calls_in(&mut compare.random, b"d") {
-        case.inputs[2] = id.to_vec();
+fn id_is_refused(compare: &mut Compare, combo: Combo, id: &[u8]) {
+    for mut case in calls_in(&mut compare.random, combo, b"d") {
+        case.inputs[1] = id.to_vec();
         assert_eq!(compare.row(&case), 2, "{:?}", case.call);
     }
 }
 
 /// Each call that is lent a directory ID, in the directory with this one.
-fn calls_in(random: &mut Random, id: &[u8]) -> [Case; 5] {
-    let mut path = make::dir_path(random);
-    let [mut plain, mut long] = [30, 200].map(|len| make::write_name(random, len));
+fn calls_in(random: &mut Random, combo: Combo, id: &[u8]) -> [Case; 5] {
+    let mut path = make::dir_path(random, combo);
+    let [mut plain, mut long] = [30, 200].map(|len| make::write_name(random, combo, len));
     for case in [&mut path, &mut plain, &mut long] {
-        case.inputs[2] = id.to_vec();
+        case.inputs[1] = id.to_vec();
     }
     let [open_plain, open_long] = [&plain, &long].map(|case| make::open_written(random, case));
     assert_eq!(open_plain.call, Call::OpenName);
@@ -96,85 +105,113 @@ fn calls_in(random: &mut Random, id: &[u8]) -> [Case; 5] {
 
 /// Row 4, whatever keys of 32 bytes: a file is cut or made longer, and is opened and
 /// read with its own keys and with others.
-fn refused_file_lengths(compare: &mut Compare) {
-    let open = make::open_file(&mut compare.random, 40_000);
-    let read = make::read_range(&mut compare.random, 40_000, 0, 1);
-    for length in [67, 96, 32_892, 69, 32_865, 16_791_621, 16_791_649] {
-        let case = number(Call::CleartextLength, length as u64);
+fn refused_file_lengths(compare: &mut Compare, combo: Combo) {
+    let open = make::open_file(&mut compare.random, combo, 40_000);
+    let read = make::read_range(&mut compare.random, combo, 40_000, 0, 1);
+    let lengths = match combo {
+        Combo::SivGcm => [67, 69, 96, 32_865, 32_892, 16_791_621, 16_791_649],
+        Combo::SivCtrmac => [87, 89, 136, 32_905, 32_952, 16_801_881, 16_801_929],
+    };
+    for length in lengths {
+        let case = with_length(Call::CleartextLength, &open.inputs[0], length as u64);
         assert_eq!(compare.row(&case), 4);
         for case in [&open, &read] {
             let mut case = case.clone();
-            case.inputs[2].resize(length, 0);
+            case.inputs[1].resize(length, 0);
             assert_eq!(compare.row(&case), 4);
-            case.inputs[0] = compare.random.bytes(32);
-            case.inputs[1] = vec![0; 32];
+            case.inputs[0] = make::vault(&mut compare.random, combo);
             assert_eq!(compare.row(&case), 4);
         }
     }
 }
 
+/// Of no cleartext, of one byte, of one chunk, of one byte more, and of the
+/// longest.
+fn file_lengths(compare: &mut Compare, combo: Combo) {
+    let files = match combo {
+        Combo::SivGcm => [68, 97, 32_864, 32_893, 16_791_620],
+        Combo::SivCtrmac => [88, 137, 32_904, 32_953, 16_801_880],
+    };
+    let vault = make::vault(&mut compare.random, combo);
+    for (cleartext, file) in [0, 1, 32_768, 32_769, 16_777_216].into_iter().zip(files) {
+        let end = compare.end(&with_length(Call::FileLength, &vault, cleartext));
+        assert_eq!((end.row, end.length), (0, file));
+        let end = compare.end(&with_length(Call::CleartextLength, &vault, file));
+        assert_eq!((end.row, end.length), (0, cleartext));
+    }
+}
+
 /// 24 characters, then ".c9r": row 5.
-fn sixteen_bytes(compare: &mut Compare) {
+fn sixteen_bytes(compare: &mut Compare, combo: Combo) {
     let text = b"AAAAAAAAAAAAAAAAAAAAAA==.c9r";
-    let mut plain = make::open_name(&mut compare.random, 1);
-    plain.inputs[3] = text.to_vec();
+    let mut plain = make::open_name(&mut compare.random, combo, 1);
+    plain.inputs[2] = text.to_vec();
     assert_eq!(compare.row(&plain), 5);
-    let mut long = make::open_long_name(&mut compare.random, 200);
-    long.inputs[4] = text.to_vec();
+    let mut long = make::open_long_name(&mut compare.random, combo, 200);
+    long.inputs[3] = text.to_vec();
     assert_eq!(compare.row(&long), 5);
 }
 
 /// Both have 1,388 characters: the first is in the text form, and its IV does
 /// not match; the second is row 5.
-fn longest_text(compare: &mut Compare) {
+fn longest_text(compare: &mut Compare, combo: Combo) {
     for (bytes, row) in [(1036, 12), (1037, 5)] {
-        let mut long = make::open_long_name(&mut compare.random, 1020);
-        long.inputs[4] = full_name(&compare.random.bytes(bytes));
-        long.inputs[3] = make::hash_name(&long.inputs[4]);
-        assert_eq!(long.inputs[4].len(), 1388);
+        let mut long = make::open_long_name(&mut compare.random, combo, 1020);
+        long.inputs[3] = full_name(&compare.random.bytes(bytes));
+        long.inputs[2] = make::hash_name(&long.inputs[3]);
+        assert_eq!(long.inputs[3].len(), 1388);
         assert_eq!(compare.row(&long), row);
     }
 }
 
 /// Row 6.
-fn largest_from(compare: &mut Compare) {
-    range_is_refused(compare, u64::MAX, 1);
+fn largest_from(compare: &mut Compare, combo: Combo) {
+    range_is_refused(compare, combo, u64::MAX, 1);
 }
 
 /// Row 6.
-fn largest_count(compare: &mut Compare) {
-    range_is_refused(compare, 1, u64::MAX);
+fn largest_count(compare: &mut Compare, combo: Combo) {
+    range_is_refused(compare, combo, 1, u64::MAX);
 }
 
-fn range_is_refused(compare: &mut Compare, from: u64, count: u64) {
+fn range_is_refused(compare: &mut Compare, combo: Combo, from: u64, count: u64) {
     for len in CLEARTEXTS {
-        let mut case = make::read_range(&mut compare.random, len, 0, 0);
+        let mut case = make::read_range(&mut compare.random, combo, len, 0, 0);
         case.numbers = vec![from, count];
         assert_eq!(compare.row(&case), 6);
     }
 }
 
 /// Success, length 0, and the header is checked.
-fn empty_range_at_end(compare: &mut Compare) {
+fn empty_range_at_end(compare: &mut Compare, combo: Combo) {
     for len in CLEARTEXTS {
-        let mut case = make::read_range(&mut compare.random, len, len as u64, 0);
+        let mut case = make::read_range(&mut compare.random, combo, len, len as u64, 0);
         let End { row, length, .. } = compare.end(&case);
         assert_eq!((row, length), (0, 0));
-        case.inputs[2][67] ^= 1;
+        case.inputs[1][sizes(combo).header - 1] ^= 1;
         assert_eq!(compare.row(&case), 9);
     }
 }
 
-/// Row 1.
-fn key_before_length(compare: &mut Compare) {
-    for key in 0..2 {
-        let mut open = make::open_file(&mut compare.random, 10);
-        open.inputs[key].pop();
-        open.inputs[2].truncate(69);
-        assert_eq!(compare.row(&open), 1);
-        let mut read = make::read_range(&mut compare.random, 10, 0, 1);
-        read.inputs[key].push(0);
-        read.inputs[2].truncate(67);
-        assert_eq!(compare.row(&read), 1);
+/// Row 1: a vault or a content key of a byte less or more.
+fn key_before_length(compare: &mut Compare, combo: Combo) {
+    let random = &mut compare.random;
+    let mut cases = [
+        make::open_file(random, combo, 10),
+        make::read_range(random, combo, 10, 0, 1),
+        make::open_chunk(random, combo, 10),
+        make::write_chunk(random, combo, 10),
+    ];
+    for case in &mut cases {
+        case.inputs.last_mut().expect("a file or chunk").clear();
+        assert_eq!(compare.row(case), 4);
+        let keys = if case.inputs.len() > 2 { 2 } else { 1 };
+        for key in 0..keys {
+            let (mut shorter, mut longer) = (case.clone(), case.clone());
+            shorter.inputs[key].pop();
+            longer.inputs[key].push(0);
+            assert_eq!(compare.row(&shorter), 1);
+            assert_eq!(compare.row(&longer), 1);
+        }
     }
 }

@@ -1,8 +1,7 @@
 //! What a call must do, according to `second`.
 
 use crate::case::{Call, Case, End, OLD_LENGTH, OLD_OTHER};
-use crate::make::any_vault;
-use second::vault::{self, Combo, Refusal, Vault, WrittenName};
+use second::vault::{self, Refusal, Vault, WrittenName};
 
 pub fn end(case: &Case) -> End {
     let mut buffers = case.buffers.clone();
@@ -24,32 +23,26 @@ type Answer = Result<(u64, Option<u64>), Refusal>;
 
 fn run(case: &Case, buffers: &mut [Vec<u8>]) -> Answer {
     let length = match (case.call, &case.inputs[..], &case.numbers[..], buffers) {
-        (Call::WriteChunk, [content_key, header_nonce, nonce, cleartext], &[number], [out]) => {
-            any_vault().write_chunk(content_key, header_nonce, number, nonce, cleartext, out)
-        }
-        (Call::OpenChunk, [content_key, header_nonce, chunk], &[number], [out]) => {
-            any_vault().open_chunk(content_key, header_nonce, number, chunk, out)
-        }
-        (Call::FileLength, [], &[length], []) => {
-            return Ok((any_vault().file_length(length)?, None))
-        }
-        (Call::CleartextLength, [], &[length], []) => {
-            return Ok((any_vault().cleartext_length(length)?, None))
+        (Call::MakeVault, [enc, mac], [_], [out]) => {
+            vault::make_vault(enc, mac, case.combo_number(), out)
         }
         (Call::WrapKey, [kek, key], [], [out]) => vault::wrap_key(kek, key, out),
         (Call::UnwrapKey, [kek, wrapped], [], [out]) => vault::unwrap_key(kek, wrapped, out),
-        (call, [enc, mac, inputs @ ..], numbers, buffers) => {
-            let vault = Vault::new(enc, mac, Combo::SivGcm)?;
-            return run_with_keys(&vault, call, inputs, numbers, buffers);
+        (call, [vault, inputs @ ..], numbers, buffers) => {
+            let vault = Vault::from_bytes(vault)?;
+            return match call {
+                Call::FileLength => Ok((vault.file_length(numbers[0])?, None)),
+                Call::CleartextLength => Ok((vault.cleartext_length(numbers[0])?, None)),
+                _ if call.is_on_names() => names(&vault, call, inputs, buffers),
+                _ => content(&vault, call, inputs, numbers, buffers),
+            };
         }
         _ => panic!("not what {:?} takes", case.call),
     };
     Ok((length? as u64, None))
 }
 
-/// The calls that the library lends both master keys. What it gives for a key
-/// of another size, the making of the vault gives here.
-fn run_with_keys(
+fn content(
     vault: &Vault,
     call: Call,
     inputs: &[Vec<u8>],
@@ -64,6 +57,12 @@ fn run_with_keys(
             let (length, reserved) = vault.open_header(header, out)?;
             return Ok((length as u64, Some(u64::from_be_bytes(reserved))));
         }
+        (Call::WriteChunk, [content_key, header_nonce, nonce, cleartext], &[number], [out]) => {
+            vault.write_chunk(content_key, header_nonce, number, nonce, cleartext, out)
+        }
+        (Call::OpenChunk, [content_key, header_nonce, chunk], &[number], [out]) => {
+            vault.open_chunk(content_key, header_nonce, number, chunk, out)
+        }
         (Call::WriteFile, [nonce, content_key, nonces, cleartext], [], [out]) => {
             vault.write_file(nonce, content_key, nonces, cleartext, out)
         }
@@ -71,18 +70,25 @@ fn run_with_keys(
         (Call::ReadRange, [file], &[from, count], [out]) => {
             vault.read_range(file, from, count, out)
         }
-        (Call::WriteName, [dir_id, name], [], [stored, full]) => {
+        _ => panic!("not what {call:?} takes"),
+    };
+    Ok((length? as u64, None))
+}
+
+fn names(vault: &Vault, call: Call, inputs: &[Vec<u8>], buffers: &mut [Vec<u8>]) -> Answer {
+    let length = match (call, inputs, buffers) {
+        (Call::WriteName, [dir_id, name], [stored, full]) => {
             let lengths = match vault.write_name(dir_id, name, stored, full)? {
                 WrittenName::Plain(stored) => (stored, 0),
                 WrittenName::Shortened { stored, full } => (stored, full),
             };
             return Ok((lengths.0 as u64, Some(lengths.1 as u64)));
         }
-        (Call::OpenName, [dir_id, stored], [], [out]) => vault.open_name(dir_id, stored, out),
-        (Call::OpenLongName, [dir_id, stored, full], [], [out]) => {
+        (Call::OpenName, [dir_id, stored], [out]) => vault.open_name(dir_id, stored, out),
+        (Call::OpenLongName, [dir_id, stored, full], [out]) => {
             vault.open_long_name(dir_id, stored, full, out)
         }
-        (Call::DirPath, [dir_id], [], [out]) => vault.dir_path(dir_id, out),
+        (Call::DirPath, [dir_id], [out]) => vault.dir_path(dir_id, out),
         _ => panic!("not what {call:?} takes"),
     };
     Ok((length? as u64, None))

@@ -5,32 +5,37 @@ use crate::case::{Call, Case};
 use crate::common::text::{is_text, random_text};
 use crate::compare::Compare;
 use crate::fault::stray;
-use crate::make::{self, LONGEST_NAME, LONGEST_PLAIN};
-use crate::Part;
+use crate::format::{LONGEST_NAME, LONGEST_PLAIN};
+use crate::make;
+use crate::part::{Part, Run::Each};
+use second::vault::Combo;
 
 pub const PARTS: &[Part] = &[
-    ("text: every byte and every two bytes", one_and_two_bytes),
-    ("text: every third byte at a border", third_bytes),
-    ("text: four bytes at the borders", four_bytes),
-    ("text: surrogates", surrogates),
-    ("text: overlong forms", overlong),
-    ("text: past the last character", past_the_last),
-    ("text: every cut", cuts),
-    ("text: 0 and '/' at every place", zeros_and_slashes),
-    ("text: a stray byte at every place", stray_bytes),
-    ("text: not text, moved", moved),
+    (
+        "text: every byte and every two bytes",
+        Each(one_and_two_bytes),
+    ),
+    ("text: every third byte at a border", Each(third_bytes)),
+    ("text: four bytes at the borders", Each(four_bytes)),
+    ("text: surrogates", Each(surrogates)),
+    ("text: overlong forms", Each(overlong)),
+    ("text: past the last character", Each(past_the_last)),
+    ("text: every cut", Each(cuts)),
+    ("text: 0 and '/' at every place", Each(zeros_and_slashes)),
+    ("text: a stray byte at every place", Each(stray_bytes)),
+    ("text: not text, moved", Each(moved)),
 ];
 
-/// The keys and the directory of the calls.
-fn place(compare: &mut Compare) -> Case {
-    make::write_name(&mut compare.random, 1)
+/// The vault and the directory of the calls.
+fn place(compare: &mut Compare, combo: Combo) -> Case {
+    make::write_name(&mut compare.random, combo, 1)
 }
 
 /// Writes and opens the name, of 1 to 1,020 bytes, and gives whether it is one.
 fn both(compare: &mut Compare, place: &Case, name: &[u8]) -> bool {
     let row = if is_text(name) { 0 } else { 3 };
     let mut write = place.clone();
-    write.inputs[3] = name.to_vec();
+    write.inputs[2] = name.to_vec();
     write.buffers = [220, 1388].map(|len| compare.random.bytes(len)).to_vec();
     assert_eq!(compare.row(&write), row, "written: {name:x?}");
     let open = make::open_sealed(&mut compare.random, place, name);
@@ -38,8 +43,8 @@ fn both(compare: &mut Compare, place: &Case, name: &[u8]) -> bool {
     row == 0
 }
 
-fn one_and_two_bytes(compare: &mut Compare) {
-    let place = place(compare);
+fn one_and_two_bytes(compare: &mut Compare, combo: Combo) {
+    let place = place(compare, combo);
     let mut proper = 0;
     for one in 0..=255 {
         proper += u32::from(both(compare, &place, &[one]));
@@ -53,8 +58,8 @@ fn one_and_two_bytes(compare: &mut Compare) {
 
 /// Behind each two bytes at which a range of second bytes begins or ends, with
 /// and without a fourth byte.
-fn third_bytes(compare: &mut Compare) {
-    let place = place(compare);
+fn third_bytes(compare: &mut Compare, combo: Combo) {
+    let place = place(compare, combo);
     for (lead, seconds) in [
         (0xe0, [0x9f, 0xa0]),
         (0xe1, [0x7f, 0x80]),
@@ -78,8 +83,8 @@ fn third_bytes(compare: &mut Compare) {
     }
 }
 
-fn four_bytes(compare: &mut Compare) {
-    let place = place(compare);
+fn four_bytes(compare: &mut Compare, combo: Combo) {
+    let place = place(compare, combo);
     let edges = [
         0x00, 0x2f, 0x7f, 0x80, 0x8f, 0x90, 0x9f, 0xa0, 0xbf, 0xc0, 0xff,
     ];
@@ -103,8 +108,8 @@ fn in_bytes(number: u32, len: usize) -> Vec<u8> {
 }
 
 /// Each by itself, as a pair, and their neighbours.
-fn surrogates(compare: &mut Compare) {
-    let place = place(compare);
+fn surrogates(compare: &mut Compare, combo: Combo) {
+    let place = place(compare, combo);
     for number in 0xd800..0xe000 {
         assert!(!both(compare, &place, &in_bytes(number, 3)));
     }
@@ -116,8 +121,8 @@ fn surrogates(compare: &mut Compare) {
 
 /// Each number below the least of a length, in that length; for four bytes
 /// some of them.
-fn overlong(compare: &mut Compare) {
-    let place = place(compare);
+fn overlong(compare: &mut Compare, combo: Combo) {
+    let place = place(compare, combo);
     for (len, least, step) in [(2, 0x80, 1), (3, 0x800, 1), (4, 0x1_0000, 61)] {
         for number in (0..least).step_by(step) {
             assert!(!both(compare, &place, &in_bytes(number, len)));
@@ -128,8 +133,8 @@ fn overlong(compare: &mut Compare) {
 }
 
 /// Also the forms of five and six bytes, which UTF-8 had once.
-fn past_the_last(compare: &mut Compare) {
-    let place = place(compare);
+fn past_the_last(compare: &mut Compare, combo: Combo) {
+    let place = place(compare, combo);
     assert!(both(compare, &place, &in_bytes(0x10_ffff, 4)));
     for number in (0x11_0000..0x20_0000).step_by(997) {
         assert!(!both(compare, &place, &in_bytes(number, 4)));
@@ -140,8 +145,8 @@ fn past_the_last(compare: &mut Compare) {
 }
 
 /// A text is cut after each of its bytes, and begun at each of them.
-fn cuts(compare: &mut Compare) {
-    let place = place(compare);
+fn cuts(compare: &mut Compare, combo: Combo) {
+    let place = place(compare, combo);
     for _ in 0..10 {
         let text = random_text(&mut compare.random, 100);
         for cut in 1..text.len() {
@@ -152,8 +157,8 @@ fn cuts(compare: &mut Compare) {
 }
 
 /// In place of each byte, and before and behind each byte.
-fn zeros_and_slashes(compare: &mut Compare) {
-    let place = place(compare);
+fn zeros_and_slashes(compare: &mut Compare, combo: Combo) {
+    let place = place(compare, combo);
     for len in [1, 2, 40, LONGEST_PLAIN, LONGEST_PLAIN + 1, LONGEST_NAME] {
         let text = random_text(&mut compare.random, len);
         for at in 0..len {
@@ -173,8 +178,8 @@ fn zeros_and_slashes(compare: &mut Compare) {
     }
 }
 
-fn stray_bytes(compare: &mut Compare) {
-    let place = place(compare);
+fn stray_bytes(compare: &mut Compare, combo: Combo) {
+    let place = place(compare, combo);
     for len in [3, LONGEST_PLAIN, LONGEST_PLAIN + 1, LONGEST_NAME] {
         let text = random_text(&mut compare.random, len);
         for at in 0..len {
@@ -188,20 +193,20 @@ fn stray_bytes(compare: &mut Compare) {
 }
 
 /// In another directory row 12 comes first.
-fn moved(compare: &mut Compare) {
-    let place = place(compare);
+fn moved(compare: &mut Compare, combo: Combo) {
+    let place = place(compare, combo);
     for len in [1, 16, LONGEST_PLAIN, LONGEST_PLAIN + 1, LONGEST_NAME] {
         for _ in 0..20 {
             let mut name = random_text(&mut compare.random, len);
             stray(&mut name, &mut compare.random);
             let mut open = make::open_sealed(&mut compare.random, &place, &name);
             assert_eq!(compare.row(&open), 3);
-            open.inputs[2].push(b'd');
-            open.inputs[2].remove(0);
-            let same = open.inputs[2] == place.inputs[2];
+            open.inputs[1].push(b'd');
+            open.inputs[1].remove(0);
+            let same = open.inputs[1] == place.inputs[1];
             assert_eq!(compare.row(&open), if same { 3 } else { 12 });
             if open.call == Call::OpenLongName {
-                open.inputs[3][0] ^= 1;
+                open.inputs[2][0] ^= 1;
                 assert_eq!(compare.row(&open), 11);
             }
         }

@@ -1,12 +1,13 @@
-//! Random calls: each with no fault or with some of its rows' faults, and some
-//! with changes that were made without any thought.
+//! Random calls: each with no fault or with some of those that it looks for,
+//! and some with changes that were made without any thought.
 
 use crate::case::{Call, Case};
 use crate::common::random::Random;
 use crate::compare::Compare;
-use crate::fault::{flip, resize, spoil};
+use crate::fault::{flip, resize, spoil, Fault};
 use crate::tally::Tally;
 use crate::{make, report, threads};
+use second::vault::Combo;
 use std::ops::Range;
 use std::sync::atomic::{AtomicBool, Ordering};
 use std::time::{Duration, Instant};
@@ -16,7 +17,7 @@ use std::{panic, thread};
 const NEWS: Duration = Duration::from_secs(60);
 
 /// So many calls have, by themselves, every end of every call among them.
-const ENOUGH: u64 = 50_000;
+const ENOUGH: u64 = 100_000;
 
 /// Makes the calls with these numbers, and gives whether all agreed. Which
 /// call is made follows from the seed and the number alone.
@@ -70,29 +71,35 @@ fn seed_of(seed: u64, number: u64) -> u64 {
 
 fn one(compare: &mut Compare) {
     let call = Call::ALL[compare.random.below(Call::ALL.len())];
-    let case = random_case(call, &mut compare.random);
+    let combo = Combo::ALL[compare.random.below(Combo::ALL.len())];
+    let case = random_case(call, combo, &mut compare.random);
     compare.end(&case);
 }
 
-fn random_case(call: Call, random: &mut Random) -> Case {
-    let mut case = make::case(call, random);
+fn random_case(call: Call, combo: Combo, random: &mut Random) -> Case {
+    let mut case = make::case(call, random, combo);
     let faults = [0, 1, 1, 2][random.below(4)];
     let mut places: Vec<_> = (0..faults)
-        .map(|_| random.below(call.rows().len()))
+        .map(|_| random.below(call.faults().len()))
         .collect();
     places.sort();
     places.dedup();
     for place in places.into_iter().rev() {
-        let row = call.rows()[place];
+        let fault = call.faults()[place];
         // A cleartext over the limit takes longer than many other calls.
-        if (call, row) != (Call::WriteFile, 4) || random.below(20) == 0 {
-            spoil(&mut case, row, random);
+        if (call, fault) != (Call::WriteFile, Fault::Length) || random.below(20) == 0 {
+            spoil(&mut case, fault, random);
         }
     }
     if random.below(4) == 0 {
         for _ in 0..1 + random.below(3) {
             change(&mut case, random);
         }
+    }
+    if call.takes_vault() && random.below(20) == 0 {
+        let vault = &mut case.inputs[0];
+        vault.pop();
+        vault.push(random.below(4) as u8);
     }
     case
 }

@@ -1,54 +1,98 @@
-//! How often each call ended in what.
+//! How often each call ended in what, by the combo that it was lent.
 
-use crate::case::{Call, End};
+use crate::case::{Call, Case, End};
+use crate::fault::Fault;
+use crate::format;
+use second::vault::Combo;
 use std::fmt::{self, Display, Formatter};
 
 /// The ends by their row, with 0 for done.
-const ENDS: [u32; 14] = [0, 1, 2, 3, 4, 5, 6, 7, 8, 9, 10, 11, 12, 20];
+const ENDS: [u32; 15] = [0, 1, 2, 3, 4, 5, 6, 7, 8, 9, 10, 11, 12, 17, 20];
 
 /// The column after theirs: done with a shortened name.
 const SHORTENED: usize = ENDS.len();
 const COLUMNS: usize = ENDS.len() + 1;
 
+/// The lines of a call: with each combo, and with none that is known.
+const LINES: [Option<Combo>; 3] = [Some(Combo::SivGcm), Some(Combo::SivCtrmac), None];
+
 #[derive(Default)]
-pub struct Tally([[u64; COLUMNS]; Call::ALL.len()]);
+pub struct Tally([[[u64; COLUMNS]; LINES.len()]; Call::ALL.len()]);
 
 impl Tally {
-    pub fn count(&mut self, call: Call, end: &End) {
-        let shortened = end.row == 0 && call == Call::WriteName && end.other != 0;
+    pub fn count(&mut self, case: &Case, end: &End) {
+        let shortened = end.row == 0 && case.call == Call::WriteName && end.other != 0;
         let column = if shortened {
             SHORTENED
         } else {
             let place = ENDS.iter().position(|&row| row == end.row);
             place.unwrap_or_else(|| panic!("there is no row {}", end.row))
         };
-        self.0[call as usize][column] += 1;
+        let line = LINES.iter().position(|&combo| combo == case.combo());
+        self.0[case.call as usize][line.expect("there are three")][column] += 1;
     }
 
     pub fn add(&mut self, other: &Tally) {
-        let counts = self.0.as_flattened_mut().iter_mut();
-        for (count, more) in counts.zip(other.0.as_flattened()) {
+        let counts = self.0.as_flattened_mut().as_flattened_mut().iter_mut();
+        for (count, more) in counts.zip(other.0.as_flattened().as_flattened()) {
             *count += more;
         }
     }
 
     pub fn total(&self) -> u64 {
-        self.0.as_flattened().iter().sum()
+        self.0.as_flattened().as_flattened().iter().sum()
     }
 
-    /// Fails unless each call was done, gave each of its rows, and no other.
+    /// The counts of each call with each combo and without.
+    fn lines(&self) -> impl Iterator<Item = (Call, Option<Combo>, [u64; COLUMNS])> + '_ {
+        let of_call = |call| {
+            LINES
+                .into_iter()
+                .zip(self.0[call as usize])
+                .map(move |(combo, counts)| (call, combo, counts))
+        };
+        Call::ALL.into_iter().flat_map(of_call)
+    }
+
+    /// Fails unless with each combo each call was done, gave each of its rows,
+    /// and no other.
     pub fn assert_every_end(&self) {
-        for call in Call::ALL {
-            for (column, count) in self.0[call as usize].into_iter().enumerate() {
-                let possible = match ENDS.get(column) {
-                    Some(0) => true,
-                    Some(row) => call.rows().contains(row),
-                    None => call == Call::WriteName,
-                };
+        for (call, combo, counts) in self.lines() {
+            for (column, count) in counts.into_iter().enumerate() {
                 let end = title(column);
-                assert_eq!(count > 0, possible, "{call:?} ended {count} times in {end}");
+                assert_eq!(
+                    count > 0,
+                    is_possible(call, combo, column),
+                    "{call:?} with {combo:?} ended {count} times in {end}"
+                );
             }
         }
+    }
+}
+
+fn is_possible(call: Call, combo: Option<Combo>, column: usize) -> bool {
+    let succeeds = match call {
+        Call::WrapKey | Call::UnwrapKey => combo.is_none(),
+        _ => combo.is_some(),
+    };
+    match ENDS.get(column) {
+        None => succeeds && call == Call::WriteName,
+        Some(0) => succeeds,
+        Some(&row) => {
+            let mut faults = call.faults().iter().filter(|fault| fault.row() == row);
+            faults.any(|&fault| is_found(call, combo, fault))
+        }
+    }
+}
+
+/// Whether a fault that the call looks for can be the first: a vault that is
+/// none keeps it from all others.
+fn is_found(call: Call, combo: Option<Combo>, fault: Fault) -> bool {
+    let of_vault = matches!(fault, Fault::VaultSize | Fault::Combo);
+    match call {
+        Call::WrapKey | Call::UnwrapKey => combo.is_none(),
+        Call::MakeVault => combo.is_none() || !of_vault,
+        _ => combo.is_none() == of_vault,
     }
 }
 
@@ -62,13 +106,17 @@ fn title(column: usize) -> String {
 
 impl Display for Tally {
     fn fmt(&self, f: &mut Formatter) -> fmt::Result {
-        write!(f, "{:15}", "")?;
+        write!(f, "{:26}", "")?;
         for column in 0..COLUMNS {
             write!(f, " {:>9}", title(column))?;
         }
-        for call in Call::ALL {
-            write!(f, "\n{:15}", format!("{call:?}"))?;
-            for count in self.0[call as usize] {
+        for (call, combo, counts) in self.lines() {
+            if counts == [0; COLUMNS] {
+                continue;
+            }
+            let combo = combo.map_or("no combo", format::name);
+            write!(f, "\n{:15} {combo:10}", format!("{call:?}"))?;
+            for count in counts {
                 match count {
                     0 => write!(f, " {:>9}", "-")?,
                     _ => write!(f, " {count:>9}")?,

@@ -2,24 +2,32 @@
 
 use crate::case::{Call, Case};
 use crate::compare::Compare;
-use crate::make::{self, full_name, LONGEST_FULL_NAME, LONGEST_NAME};
-use crate::Part;
+use crate::format::{LONGEST_FULL_NAME, LONGEST_NAME};
+use crate::make::{self, full_name};
+use crate::part::{Part, Run::Each};
+use second::vault::Combo;
 
 pub const PARTS: &[Part] = &[
-    ("texts: every character at every place", every_character),
-    ("texts: some characters of long names", some_characters),
-    ("texts: cut, shorter and longer", lengths),
-    ("texts: every decoded length", decoded_lengths),
-    ("texts: around the longest full name", longest_texts),
-    ("texts: padding and spare bits", last_group),
-    ("texts: every character of the hash name", hash_names),
+    (
+        "texts: every character at every place",
+        Each(every_character),
+    ),
+    (
+        "texts: some characters of long names",
+        Each(some_characters),
+    ),
+    ("texts: cut, shorter and longer", Each(lengths)),
+    ("texts: every decoded length", Each(decoded_lengths)),
+    ("texts: around the longest full name", Each(longest_texts)),
+    ("texts: padding and spare bits", Each(last_group)),
+    ("texts: every character of the hash name", Each(hash_names)),
 ];
 
 /// The case with this as its (full) name, and with the hash of it.
 fn with_text(case: &Case, text: Vec<u8>) -> Case {
     let mut case = case.clone();
     if case.call == Call::OpenLongName {
-        case.inputs[3] = make::hash_name(&text);
+        case.inputs[2] = make::hash_name(&text);
     }
     *case.inputs.last_mut().expect("a text") = text;
     case
@@ -32,9 +40,9 @@ fn text(case: &Case) -> Vec<u8> {
 /// Three names, so that the last group has each number of characters. With
 /// another character in the place of a pad the name is longer, and may have no
 /// room.
-fn every_character(compare: &mut Compare) {
+fn every_character(compare: &mut Compare, combo: Combo) {
     for len in [1, 2, 3] {
-        let case = make::open_name(&mut compare.random, len);
+        let case = make::open_name(&mut compare.random, combo, len);
         let right = text(&case);
         for place in 0..right.len() {
             let pad = right[place] == b'=';
@@ -49,10 +57,10 @@ fn every_character(compare: &mut Compare) {
     }
 }
 
-fn some_characters(compare: &mut Compare) {
-    let plain = make::open_name(&mut compare.random, 146);
+fn some_characters(compare: &mut Compare, combo: Combo) {
+    let plain = make::open_name(&mut compare.random, combo, 146);
     let long = [147, 148, 149, 255, 1018, 1019, 1020]
-        .map(|len| make::open_long_name(&mut compare.random, len));
+        .map(|len| make::open_long_name(&mut compare.random, combo, len));
     for case in [plain].into_iter().chain(long) {
         let right = text(&case);
         for place in 0..right.len() {
@@ -68,10 +76,10 @@ fn some_characters(compare: &mut Compare) {
     }
 }
 
-fn lengths(compare: &mut Compare) {
-    let plain = [1, 2, 3, 144].map(|len| make::open_name(&mut compare.random, len));
-    let long =
-        [147, 148, 255, 1018, 1019, 1020].map(|len| make::open_long_name(&mut compare.random, len));
+fn lengths(compare: &mut Compare, combo: Combo) {
+    let plain = [1, 2, 3, 144].map(|len| make::open_name(&mut compare.random, combo, len));
+    let long = [147, 148, 255, 1018, 1019, 1020]
+        .map(|len| make::open_long_name(&mut compare.random, combo, len));
     for case in plain.into_iter().chain(long) {
         let right = text(&case);
         for place in 0..=right.len() {
@@ -92,9 +100,9 @@ fn lengths(compare: &mut Compare) {
 }
 
 /// Only 17 to 1,036 bytes are a sealed name.
-fn decoded_lengths(compare: &mut Compare) {
-    let mut plain = make::open_name(&mut compare.random, 1);
-    let mut long = make::open_long_name(&mut compare.random, LONGEST_NAME);
+fn decoded_lengths(compare: &mut Compare, combo: Combo) {
+    let mut plain = make::open_name(&mut compare.random, combo, 1);
+    let mut long = make::open_long_name(&mut compare.random, combo, LONGEST_NAME);
     plain.buffers[0] = compare.random.bytes(1200);
     long.buffers[0] = compare.random.bytes(1200);
     for len in 0..1200 {
@@ -113,8 +121,8 @@ fn decoded_lengths(compare: &mut Compare) {
 /// Every number of characters around 1,388, which the longest full name has,
 /// and there every padding. Of 1,388 characters only a text with two pads is
 /// short enough: with one it stands for 1,037 bytes, with none for 1,038.
-fn longest_texts(compare: &mut Compare) {
-    let mut case = make::open_long_name(&mut compare.random, LONGEST_NAME);
+fn longest_texts(compare: &mut Compare, combo: Combo) {
+    let mut case = make::open_long_name(&mut compare.random, combo, LONGEST_NAME);
     case.buffers[0] = compare.random.bytes(1200);
     for len in LONGEST_FULL_NAME - 20..=LONGEST_FULL_NAME + 20 {
         for pads in 0..4 {
@@ -128,10 +136,10 @@ fn longest_texts(compare: &mut Compare) {
 }
 
 /// All pairs of characters at the end of the text.
-fn last_group(compare: &mut Compare) {
+fn last_group(compare: &mut Compare, combo: Combo) {
     let alphabet = b"ABCDEFGHIJKLMNOPQRSTUVWXYZabcdefghijklmnopqrstuvwxyz0123456789-_=+/.";
     for len in [1, 2, 3] {
-        let case = make::open_name(&mut compare.random, len);
+        let case = make::open_name(&mut compare.random, combo, len);
         let right = text(&case);
         let end = right.len() - 4;
         for place in [end - 3, end - 2] {
@@ -149,23 +157,23 @@ fn last_group(compare: &mut Compare) {
     }
 }
 
-fn hash_names(compare: &mut Compare) {
-    let case = make::open_long_name(&mut compare.random, 200);
+fn hash_names(compare: &mut Compare, combo: Combo) {
+    let case = make::open_long_name(&mut compare.random, combo, 200);
     for place in 0..32 {
         for character in 0..=255 {
             let mut other = case.clone();
-            other.inputs[3][place] = character;
-            let same = other.inputs[3] == case.inputs[3];
+            other.inputs[2][place] = character;
+            let same = other.inputs[2] == case.inputs[2];
             assert_eq!(compare.row(&other), if same { 0 } else { 11 });
         }
     }
     for len in 0..70 {
         let mut other = case.clone();
-        other.inputs[3].resize(len, b'A');
+        other.inputs[2].resize(len, b'A');
         assert_eq!(compare.row(&other), if len == 32 { 0 } else { 11 });
     }
     // The full name itself is not its stored name.
     let mut other = case.clone();
-    other.inputs[3] = case.inputs[4].clone();
+    other.inputs[2] = case.inputs[3].clone();
     assert_eq!(compare.row(&other), 11);
 }

@@ -1,19 +1,35 @@
 -- `check_vault`: the two tests of the size, and opening the three parts of the input.
 -- Assumes nothing.
-use mathlib.Core.Path.{refl, sym, ap, _∙_}
+use mathlib.Core.Path.{_≡_, refl, sym, ap, ap₂, _∙_}
 use mathlib.Core.List.{List}
 use Prim.Native.Nat.{ℕ, _-_}
 use native.Mathlib.Omega.{arith}
 use borrow.Author.Tests.{lt-ltb, le-ltb}
-use lib.ListN.{length, take, drop}
+use lib.ListN.{length, take, drop, length-drop}
 use lib.Seq.{length-take-le}
 use Rattle.octets.proofs.Lists.{part-rest}
 use Rattle.frame.specs.Frame.{openFile}
-use Rattle.siv_gcm.specs.SivGcm.{codec}
+use Rattle.frame.proofs.KeySizes.{keys-exactly}
+use Rattle.vault.specs.declared.record.Combo.the-variants.{SivGcm}
+use Rattle.vault.specs.declared.record.Vault.{Vault}
+use Rattle.vault.specs.Vault.{vaultWith, codecOf}
+use Rattle.vault.specs.Making.{Making}
+use Rattle.vault.proofs.Making.{made}
 use Rattle.check_line.specs.Check.{checkVault}
 use borrow.Author.Needs.{needs}
 use Rattle.check_line.proofs.check_vault.Statement.{statement}
 use Rattle.check_line.proofs.check_vault.Tie as tie
+
+-- the record of the first 64 bytes
+under : (c : tie.After-make-vault) →
+    let x = c .before .before .before .before .before .before .before .before .args in
+    c .make-vault .result .vault ≡ vaultWith (take 32 (x .input .now)) (take 32 (drop 32 (x .input .now))) SivGcm
+under c =
+    let l = c .before .before .before .before .before .before .before .before .args .input .now in
+    let h = c .before .before .before .before .before .if1 .left in
+    let e = length-take-le 32 l (omega (arith, h)) in
+    let m = length-take-le 32 (drop 32 l) (omega (arith, length-drop 32 l, h)) in
+    ap (λ (r : Making). r .vault) (c .make-vault .ensures ∙ sym (made (take 32 l) (take 32 (drop 32 l)) SivGcm (keys-exactly (take 32 l) (take 32 (drop 32 l)) .1 (e, m))))
 
 returns : tie.Need-returns
 unfolding checkVault
@@ -46,6 +62,9 @@ part-file-start c = search needs
 part-file-end : tie.Need-part-file-end
 part-file-end c = search needs
 
+make-vault-requires : tie.Need-make-vault-requires
+make-vault-requires c κs = search needs
+
 open-file-requires : tie.Need-open-file-requires
 open-file-requires c κs = search needs
 
@@ -55,11 +74,11 @@ same-length c = search needs
 returns-3 : tie.Need-returns-3
 unfolding checkVault
 returns-3 c =
-    let x = c .before .before .before .before .before .before .before .before .before .before .before .args in
+    let x = c .before .before .before .before .before .before .before .before .before .before .before .before .before .args in
     let n = length (x .input .now) in
-    rw (le-ltb n 64 (c .before .before .before .before .before .before .before .before .if1 .left), le-ltb 65536 n (omega (arith, c .before .before .before .before .before .before .before .if2 .left)))
+    rw (le-ltb n 64 (c .before .before .before .before .before .before .before .before .before .before .if1 .left), le-ltb 65536 n (omega (arith, c .before .before .before .before .before .before .before .before .before .if2 .left)))
     (c .before .before .open-file .ensures
-    ∙ ap (λ (f : List ℕ). openFile (codec (take 32 (x .input .now)) (take 32 (drop 32 (x .input .now)))) f (x .room .now)) (part-rest (x .input .now) n 64 refl))
+    ∙ ap₂ (λ (v : Vault) (f : List ℕ). openFile (codecOf v) f (x .room .now)) (under (c .before .before .before .before .before)) (part-rest (x .input .now) n 64 refl))
 
 pub check-vault-spec : {M : Type 1} → statement M
 check-vault-spec =
@@ -74,6 +93,7 @@ check-vault-spec =
     sub-file
     part-file-start
     part-file-end
+    make-vault-requires
     open-file-requires
     same-length
     returns-3)

@@ -36,7 +36,7 @@ tested : (c : tie.After-sizes-right) → let b = c .before .before .before .befo
 tested c =
     let b = c .before .before .before .before .before .before .before .before .before in
     let x = b .args in
-    ap₂ (λ (a : Bool) (z : Sizes). a && (headRight z (chosen b .head) && eqb (length (x .nonces .now)) (z .nonce * chunks (length (x .cleartext .now)))))
+    ap₂ (λ (a : Bool) (z : Sizes). a && (headRight (sizesOf (x .combo)) (chosen b .head) && eqb (length (x .nonces .now)) (z .nonce * chunks (length (x .cleartext .now)))))
     (keys-exactly (x .enc .now) (x .mac .now) .1 (b .pre)) (sym (c .before .sizes-of .ensures))
     ∙ sym (c .sizes-right .ensures)
 

@@ -3,46 +3,47 @@
 use super::{flip, resize};
 use crate::case::{Call, Case};
 use crate::common::random::Random;
-use crate::make::{any_vault, HEADER, MAX_CHUNK, WRAPPED_KEY};
-use second::vault::CHUNK_LEN;
+use crate::format::{sizes, Sizes, LONGEST_CLEARTEXT, WRAPPED_KEY};
+use crate::make;
+use second::vault::{Combo, CHUNK_LEN};
 
 pub fn length(case: &mut Case, random: &mut Random) {
+    if case.call == Call::UnwrapKey {
+        return other_than(&mut case.inputs[1], WRAPPED_KEY, random);
+    }
+    let sizes = own_sizes(case);
     match case.call {
-        Call::OpenHeader => other_than(&mut case.inputs[2], HEADER, random),
-        Call::UnwrapKey => other_than(&mut case.inputs[1], WRAPPED_KEY, random),
+        Call::OpenHeader => other_than(&mut case.inputs[1], sizes.header, random),
         Call::WriteChunk => {
             let len = random.below(2) * (CHUNK_LEN + 1 + random.below(2) * random.below(100));
-            resize(&mut case.inputs[3], len, random);
+            resize(&mut case.inputs[4], len, random);
         }
         Call::OpenChunk => {
-            let len = [random.below(29), MAX_CHUNK + 1 + random.below(100)][random.below(2)];
-            resize(&mut case.inputs[2], len, random);
+            let short = random.below(sizes.overhead + 1);
+            let long = sizes.chunk + 1 + random.below(100);
+            resize(&mut case.inputs[3], [short, long][random.below(2)], random);
         }
         Call::WriteFile => {
-            case.inputs[5] = vec![7; 16_777_217 + random.below(100)];
-            resize(&mut case.inputs[4], 513 * 12, random);
+            case.inputs[4] = vec![7; LONGEST_CLEARTEXT + 1 + random.below(100)];
+            resize(&mut case.inputs[3], 513 * sizes.nonce, random);
         }
-        Call::OpenFile | Call::ReadRange => {
-            let file = &mut case.inputs[2];
-            let whole = HEADER + file.len().saturating_sub(HEADER) / MAX_CHUNK * MAX_CHUNK;
-            let len = match random.below(40) {
-                0 => 16_791_621 + random.below(100),
-                1..20 => whole + 1 + random.below(28),
-                _ => random.below(HEADER),
-            };
-            resize(file, len, random);
-        }
-        Call::FileLength => case.numbers[0] = large(random, 16_777_217),
+        Call::OpenFile | Call::ReadRange => file_length(&mut case.inputs[1], &sizes, random),
+        Call::FileLength => case.numbers[0] = large(random, LONGEST_CLEARTEXT + 1),
         Call::CleartextLength => {
-            let whole = HEADER + random.below(512) * MAX_CHUNK;
+            let whole = sizes.header + random.below(512) * sizes.chunk;
             case.numbers[0] = match random.below(3) {
-                0 => large(random, 16_791_621),
-                1 => (whole + 1 + random.below(28)) as u64,
-                _ => random.below(HEADER) as u64,
+                0 => large(random, sizes.longest_file + 1),
+                1 => (whole + 1 + random.below(sizes.overhead)) as u64,
+                _ => random.below(sizes.header) as u64,
             };
         }
         call => panic!("{call:?} does not look at lengths"),
     }
+}
+
+/// The sizes of the vault's combo.
+fn own_sizes(case: &Case) -> Sizes {
+    sizes(case.combo().expect("a vault"))
 }
 
 /// Any length but the right one.
@@ -51,8 +52,21 @@ fn other_than(input: &mut Vec<u8>, right: usize, random: &mut Random) {
     resize(input, len, random);
 }
 
+/// Too long, too short for its last chunk, or shorter than a header.
+fn file_length(file: &mut Vec<u8>, sizes: &Sizes, random: &mut Random) {
+    let chunks = file.len().saturating_sub(sizes.header) / sizes.chunk;
+    let whole = sizes.header + chunks * sizes.chunk;
+    let len = match random.below(40) {
+        0 => sizes.longest_file + 1 + random.below(100),
+        1..20 => whole + 1 + random.below(sizes.overhead),
+        _ => random.below(sizes.header),
+    };
+    resize(file, len, random);
+}
+
 /// A number from this one on, often at the edge or very large.
-fn large(random: &mut Random, least: u64) -> u64 {
+fn large(random: &mut Random, least: usize) -> u64 {
+    let least = least as u64;
     match random.below(3) {
         0 => least + random.below(3) as u64,
         1 => u64::MAX - random.below(3) as u64,
@@ -61,8 +75,7 @@ fn large(random: &mut Random, least: u64) -> u64 {
 }
 
 pub fn range(case: &mut Case, random: &mut Random) {
-    let file = case.inputs[2].len() as u64;
-    let end = any_vault().cleartext_length(file).expect("a right length");
+    let end = make::cleartext_len(case) as u64;
     let more = 1 + random.below(3) as u64;
     let near = random.below(end as usize + 1) as u64;
     let (from, count) = match random.below(7) {
@@ -78,52 +91,59 @@ pub fn range(case: &mut Case, random: &mut Random) {
 }
 
 pub fn repeated_nonce(case: &mut Case, random: &mut Random) -> bool {
-    let (nonces, _) = case.inputs[4].as_chunks_mut::<12>();
-    if nonces.len() < 2 {
+    let len = own_sizes(case).nonce;
+    let nonces = case.inputs[3].len() / len;
+    if nonces < 2 {
         return false;
     }
-    let one = random.below(nonces.len());
-    let other = (one + 1 + random.below(nonces.len() - 1)) % nonces.len();
-    nonces[one] = nonces[other];
+    let one = random.below(nonces);
+    let other = (one + 1 + random.below(nonces - 1)) % nonces;
+    case.inputs[3].copy_within(other * len..(other + 1) * len, one * len);
     true
 }
 
 /// A wrong bit: of the nonce, of the reserved bytes or the content key as they
 /// are stored, or of the tag.
 pub fn header(case: &mut Case, random: &mut Random) {
-    flip(&mut case.inputs[2][..HEADER], random);
+    let header = own_sizes(case).header;
+    flip(&mut case.inputs[1][..header], random);
 }
 
 /// Damages one covering chunk or more.
 pub fn chunk(case: &mut Case, random: &mut Random) -> bool {
     if case.call == Call::OpenChunk {
-        match random.below(4) {
-            0 => case.numbers[0] ^= 1 << random.below(64),
-            1 => flip(&mut case.inputs[1], random),
-            2 => flip(&mut case.inputs[0], random),
-            _ => flip(&mut case.inputs[2], random),
-        }
+        single_chunk(case, random);
         return true;
     }
-    let chunks = case.inputs[2][HEADER..].chunks_mut(MAX_CHUNK).enumerate();
+    let sizes = own_sizes(case);
+    let chunks = case.inputs[1][sizes.header..].chunks_mut(sizes.chunk);
     let mut covering: Vec<_> = match case.numbers[..] {
+        [_, 0] => vec![],
         [from, count] => {
             let first = from as usize / CHUNK_LEN;
             let end = (from + count).div_ceil(CHUNK_LEN as u64) as usize;
-            let end = if count == 0 { 0 } else { end };
-            chunks.filter(|(i, _)| (first..end).contains(i)).collect()
+            chunks.take(end).skip(first).collect()
         }
         _ => chunks.collect(),
     };
     if covering.is_empty() {
         return false;
     }
-    for _ in 0..1 + random.below(2) {
+    for _ in 0..1 + random.below(2).min(covering.len() - 1) {
         let one = random.below(covering.len());
-        flip(covering.swap_remove(one).1, random);
-        if covering.is_empty() {
-            break;
-        }
+        flip(covering.swap_remove(one), random);
     }
     true
+}
+
+/// Another number, header nonce or chunk; or another key that the tag is under:
+/// the content key, or in SIV_CTRMAC the MAC master key.
+fn single_chunk(case: &mut Case, random: &mut Random) {
+    match (random.below(4), case.combo()) {
+        (0, _) => case.numbers[0] ^= 1 << random.below(64),
+        (1, _) => flip(&mut case.inputs[2], random),
+        (2, Some(Combo::SivCtrmac)) => flip(&mut case.inputs[0][32..64], random),
+        (2, _) => flip(&mut case.inputs[1], random),
+        _ => flip(&mut case.inputs[3], random),
+    }
 }

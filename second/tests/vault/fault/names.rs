@@ -4,11 +4,12 @@ use super::{flip, resize};
 use crate::case::{Call, Case};
 use crate::common::random::Random;
 use crate::common::text::{is_text, random_text};
-use crate::make::{self, full_name, LONGEST_NAME, LONGEST_PLAIN};
+use crate::format::{LONGEST_NAME, LONGEST_PLAIN};
+use crate::make::{self, full_name};
 use second::base64url;
 
 pub fn directory_id(case: &mut Case, random: &mut Random) {
-    let id = &mut case.inputs[2];
+    let id = &mut case.inputs[1];
     if random.below(2) == 0 {
         let len = 37 + random.below(2) * random.below(300);
         *id = (0..len).map(|_| random.below(128) as u8).collect();
@@ -26,10 +27,10 @@ pub fn name(case: &mut Case, random: &mut Random) {
         return sealed_name(case, random);
     }
     if random.below(2) == 0 {
-        return stray(&mut case.inputs[3], random);
+        return stray(&mut case.inputs[2], random);
     }
     let len = random.below(2) * (LONGEST_NAME + 1 + random.below(2) * random.below(1000));
-    case.inputs[3] = random_text(random, len);
+    case.inputs[2] = random_text(random, len);
 }
 
 /// The text of bytes that are not text, as many as there were.
@@ -89,15 +90,16 @@ fn spare_bits(text: &mut Vec<u8>, random: &mut Random) {
 /// Another stored name, or a full name that need not be shortened.
 pub fn hash_name(case: &mut Case, random: &mut Random) {
     match random.below(4) {
-        0 => flip(&mut case.inputs[3], random),
+        0 => flip(&mut case.inputs[2], random),
         1 => {
             let len = [random.below(32), 33 + random.below(300)][random.below(2)];
-            resize(&mut case.inputs[3], len, random);
+            resize(&mut case.inputs[2], len, random);
         }
-        2 => case.inputs[3][31] = b'r',
+        2 => case.inputs[2][31] = b'r',
         _ => {
             let len = 1 + random.below(LONGEST_PLAIN);
-            let other = make::open_long_name(random, len);
+            let combo = case.combo().expect("a vault");
+            let other = make::open_long_name(random, combo, len);
             case.inputs = other.inputs;
             case.buffers = other.buffers;
         }
@@ -108,10 +110,10 @@ pub fn hash_name(case: &mut Case, random: &mut Random) {
 pub fn synthetic_iv(case: &mut Case, random: &mut Random) -> bool {
     if random.below(2) == 0 {
         let id = make::dir_id(random);
-        if id == case.inputs[2] {
+        if id == case.inputs[1] {
             return false;
         }
-        case.inputs[2] = id;
+        case.inputs[1] = id;
         return true;
     }
     let full = case.inputs.last_mut().expect("a text");
@@ -120,7 +122,7 @@ pub fn synthetic_iv(case: &mut Case, random: &mut Random) -> bool {
     flip(&mut sealed, random);
     *full = full_name(&sealed);
     if case.call == Call::OpenLongName {
-        case.inputs[3] = make::hash_name(&case.inputs[4]);
+        case.inputs[2] = make::hash_name(&case.inputs[3]);
     }
     true
 }

@@ -2,8 +2,8 @@
 
 use crate::case::{Call, Case};
 use crate::common::random::Random;
-use crate::make::{any_vault, HEADER, WRAPPED_KEY};
-use second::vault::CHUNK_LEN;
+use crate::format::{sizes, VAULT, WRAPPED_KEY};
+use crate::make;
 
 /// Makes a buffer too short for what goes into it.
 pub fn room(case: &mut Case, random: &mut Random) -> bool {
@@ -21,27 +21,26 @@ pub fn room(case: &mut Case, random: &mut Random) -> bool {
 /// How long each part of the answer is.
 fn needs(case: &Case) -> Vec<usize> {
     let input = |i: usize| case.inputs[i].len();
+    let sizes = || sizes(case.combo().expect("a vault"));
     let name = |text: &[u8]| {
         let padding = text.iter().filter(|&&byte| byte == b'=').count();
         (text.len() - 4) / 4 * 3 - padding - 16
     };
     match case.call {
-        Call::WriteHeader => vec![HEADER],
+        Call::MakeVault => vec![VAULT],
+        Call::WriteHeader => vec![sizes().header],
         Call::OpenHeader | Call::UnwrapKey => vec![32],
-        Call::WriteChunk => vec![input(3) + 28],
-        Call::OpenChunk => vec![input(2) - 28],
-        Call::WriteFile => vec![HEADER + input(5) + 28 * input(5).div_ceil(CHUNK_LEN)],
-        Call::OpenFile => {
-            let length = any_vault().cleartext_length(input(2) as u64);
-            vec![length.expect("a right length") as usize]
-        }
+        Call::WriteChunk => vec![input(4) + sizes().overhead],
+        Call::OpenChunk => vec![input(3) - sizes().overhead],
+        Call::WriteFile => vec![sizes().file(input(4))],
+        Call::OpenFile => vec![make::cleartext_len(case)],
         Call::ReadRange => vec![case.numbers[1] as usize],
-        Call::WriteName => match (16 + input(3)).div_ceil(3) * 4 + 4 {
+        Call::WriteName => match (16 + input(2)).div_ceil(3) * 4 + 4 {
             full @ 0..=220 => vec![full, 0],
             full => vec![32, full],
         },
-        Call::OpenName => vec![name(&case.inputs[3])],
-        Call::OpenLongName => vec![name(&case.inputs[4])],
+        Call::OpenName => vec![name(&case.inputs[2])],
+        Call::OpenLongName => vec![name(&case.inputs[3])],
         Call::DirPath => vec![36],
         Call::FileLength | Call::CleartextLength => vec![],
         Call::WrapKey => vec![WRAPPED_KEY],

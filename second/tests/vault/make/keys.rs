@@ -1,8 +1,9 @@
 //! Wrapped keys.
 
-use super::{answer, with_room, WRAPPED_KEY};
+use super::{answer, with_room};
 use crate::case::{Call, Case};
 use crate::common::random::Random;
+use crate::format::WRAPPED_KEY;
 use second::aes::Aes256;
 use second::key_wrap;
 

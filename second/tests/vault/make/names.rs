@@ -1,15 +1,19 @@
 //! Names and paths.
 
-use super::{buffer, with_room, LONGEST_FULL_NAME};
+use super::{buffer, master_keys, vault, with_room};
 use crate::case::{Call, Case};
 use crate::common::random::Random;
 use crate::common::text::random_text;
+use crate::format::LONGEST_FULL_NAME;
 use second::vault::{Combo, Vault, WrittenName};
 use second::{base64url, sha1, siv};
 
-pub fn write_name(random: &mut Random, len: usize) -> Case {
-    let (keys, id) = (keys(random), dir_id(random));
-    let inputs = [&keys[..], &[id, random_text(random, len)]].concat();
+pub fn write_name(random: &mut Random, combo: Combo, len: usize) -> Case {
+    let inputs = vec![
+        vault(random, combo),
+        dir_id(random),
+        random_text(random, len),
+    ];
     let full = (16 + len).div_ceil(3) * 4 + 4;
     let (stored, full) = if full <= 220 { (full, 0) } else { (32, full) };
     let mut case = with_room(Call::WriteName, random, inputs, &[], stored);
@@ -17,35 +21,30 @@ pub fn write_name(random: &mut Random, len: usize) -> Case {
     case
 }
 
-pub fn open_name(random: &mut Random, len: usize) -> Case {
-    let write = write_name(random, len);
+pub fn open_name(random: &mut Random, combo: Combo, len: usize) -> Case {
+    let write = write_name(random, combo, len);
     open_written(random, &write)
 }
 
-/// The call that opens the full name of these bytes, under the keys and in the
-/// directory of another call; `second` sealed them, and they need not be text.
+/// The call that opens the full name of these bytes, in the vault and directory
+/// of another call; `second` sealed them, and they need not be text.
 pub fn open_sealed(random: &mut Random, other: &Case, name: &[u8]) -> Case {
-    let (enc, mac) = master_keys(other);
-    let full = full_name(&siv::seal(mac, enc, &[&other.inputs[2]], name));
+    let (enc, mac) = master_keys(&other.inputs[0]);
+    let full = full_name(&siv::seal(mac, enc, &[&other.inputs[1]], name));
     let (call, texts) = match full.len() {
         0..=220 => (Call::OpenName, vec![full]),
         _ => (Call::OpenLongName, vec![hash_name(&full), full]),
     };
-    let inputs = [&other.inputs[..3], &texts].concat();
+    let inputs = [&other.inputs[..2], &texts].concat();
     with_room(call, random, inputs, &[], name.len())
 }
 
 /// The bytes that an opener's case has sealed in its (full) name.
 pub fn sealed_in(case: &Case) -> Vec<u8> {
-    let (enc, mac) = master_keys(case);
+    let (enc, mac) = master_keys(&case.inputs[0]);
     let full = case.inputs.last().expect("a text");
     let sealed = base64url::decode(&full[..full.len() - 4], true).expect("a text");
-    siv::open(mac, enc, &[&case.inputs[2]], &sealed).expect("its own directory")
-}
-
-fn master_keys(case: &Case) -> (&[u8; 32], &[u8; 32]) {
-    let [enc, mac] = [0, 1].map(|key| case.inputs[key][..].try_into().expect("a key"));
-    (enc, mac)
+    siv::open(mac, enc, &[&case.inputs[1]], &sealed).expect("its own directory")
 }
 
 /// The call that opens, in its directory, what this one writes.
@@ -58,18 +57,18 @@ pub fn open_written(random: &mut Random, write: &Case) -> Case {
         0 => (Call::OpenName, 1),
         _ => (Call::OpenLongName, 2),
     };
-    let inputs = [&write.inputs[..3], &end.buffers[..texts]].concat();
-    with_room(call, random, inputs, &[], write.inputs[3].len())
+    let inputs = [&write.inputs[..2], &end.buffers[..texts]].concat();
+    with_room(call, random, inputs, &[], write.inputs[2].len())
 }
 
 /// The name can be one that is stored as it is: then row 11 applies.
-pub fn open_long_name(random: &mut Random, len: usize) -> Case {
-    let write = write_name(random, len);
+pub fn open_long_name(random: &mut Random, combo: Combo, len: usize) -> Case {
+    let write = write_name(random, combo, len);
     let (mut stored, mut full) = (vec![0; 220], vec![0; LONGEST_FULL_NAME]);
-    let [enc, mac, id, name] = &write.inputs[..] else {
+    let [vault, id, name] = &write.inputs[..] else {
         panic!("not what a name is written of");
     };
-    let vault = Vault::new(enc, mac, Combo::SivGcm).expect("two keys");
+    let vault = Vault::from_bytes(vault).expect("a vault");
     match vault.write_name(id, name, &mut stored, &mut full) {
         Ok(WrittenName::Plain(length)) => {
             full = stored[..length].to_vec();
@@ -81,13 +80,12 @@ pub fn open_long_name(random: &mut Random, len: usize) -> Case {
         }
         Err(refusal) => panic!("{refusal:?}"),
     }
-    let inputs = [&write.inputs[..3], &[stored, full]].concat();
+    let inputs = [&write.inputs[..2], &[stored, full]].concat();
     with_room(Call::OpenLongName, random, inputs, &[], len)
 }
 
-pub fn dir_path(random: &mut Random) -> Case {
-    let (keys, id) = (keys(random), dir_id(random));
-    let inputs = [&keys[..], &[id]].concat();
+pub fn dir_path(random: &mut Random, combo: Combo) -> Case {
+    let inputs = vec![vault(random, combo), dir_id(random)];
     with_room(Call::DirPath, random, inputs, &[], 36)
 }
 
@@ -105,8 +103,4 @@ pub fn full_name(sealed: &[u8]) -> Vec<u8> {
 pub fn dir_id(random: &mut Random) -> Vec<u8> {
     let len = random.below(37);
     (0..len).map(|_| random.below(128) as u8).collect()
-}
-
-fn keys(random: &mut Random) -> [Vec<u8>; 2] {
-    [random.array::<32>(), random.array()].map(Vec::from)
 }

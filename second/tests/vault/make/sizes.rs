@@ -1,7 +1,7 @@
 //! Lengths, numbers and ranges, often at edges.
 
-use super::LONGEST_NAME;
 use crate::common::random::Random;
+use crate::format::LONGEST_NAME;
 use second::vault::CHUNK_LEN;
 
 pub fn chunk_len(random: &mut Random) -> usize {

@@ -1,6 +1,5 @@
--- `open_chunk`: the call by the combo SIV_GCM, whose chunks depend on no master key.
+-- `open_chunk`: the call by the record's combo and MAC master key, under any encryption master key.
 -- Assumes nothing.
-use Rattle.frame.specs.Single.{openChunkRows, openChunk}
 use borrow.Author.Needs.{needs}
 use Rattle.content.proofs.chunk.open_chunk.Statement.{statement}
 use Rattle.content.proofs.chunk.open_chunk.Tie as tie
@@ -15,8 +14,7 @@ same-length : tie.Need-same-length
 same-length c = search needs
 
 returns : tie.Need-returns
-unfolding openChunkRows openChunk
-returns c enc mac reserved = c .before .before .open-by .ensures enc reserved
+returns c reserved = c .before .before .open-by .ensures _ reserved
 
 pub open-chunk-spec : {M : Type 1} → statement M
 open-chunk-spec = tie.close (tie.spec slice-aggregate-open-by open-by-requires same-length returns)

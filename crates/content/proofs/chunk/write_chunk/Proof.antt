@@ -1,6 +1,5 @@
--- `write_chunk`: the call by the combo SIV_GCM, whose chunks depend on no master key.
+-- `write_chunk`: the call by the record's combo and MAC master key, under any encryption master key.
 -- Assumes nothing.
-use Rattle.frame.specs.Single.{writeChunkRows, writeChunk}
 use borrow.Author.Needs.{needs}
 use Rattle.content.proofs.chunk.write_chunk.Statement.{statement}
 use Rattle.content.proofs.chunk.write_chunk.Tie as tie
@@ -15,8 +14,7 @@ same-length : tie.Need-same-length
 same-length c = search needs
 
 returns : tie.Need-returns
-unfolding writeChunkRows writeChunk
-returns c enc mac reserved = c .before .before .write-by .ensures enc reserved
+returns c reserved = c .before .before .write-by .ensures _ reserved
 
 pub write-chunk-spec : {M : Type 1} → statement M
 write-chunk-spec = tie.close (tie.spec slice-aggregate-write-by write-by-requires same-length returns)

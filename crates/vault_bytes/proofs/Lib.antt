@@ -1,0 +1,3 @@
+pub mod Combos
+pub mod Storing
+pub mod Lending

@@ -1,0 +1,2 @@
+pub mod VaultBytes
+pub mod Statements

@@ -1,0 +1,68 @@
+-- The vault's record as bytes, the form in which C callers lend it.
+-- Assumes nothing.
+use Prim.Native.Nat.{ℕ}
+use mathlib.Core.Bool.{Bool, _||_, not, cond}
+use mathlib.Core.List.{List, [], _∷_, _++_}
+use lib.Dec.{eqb, ltb}
+use lib.ListN.{length, take, drop, getD}
+use Rattle.octets.specs.Bytes.{filled}
+use Rattle.octets.specs.Rows.{done, refused, Row, answer, End, ended, ending}
+use Rattle.frame.specs.Frame.{keySize, masterKeysRight}
+use Rattle.vault.specs.declared.record.Combo.{Combo}
+use Rattle.vault.specs.declared.record.Combo.the-variants.{SivGcm, SivCtrmac}
+use Rattle.vault.specs.declared.record.Vault.{Vault}
+use Rattle.vault.specs.Vault.{vaultWith}
+
+-- Two master keys of 32 bytes, and a byte for the combo.
+abbrev pub vaultSize : ℕ
+vaultSize = 65
+
+-- Where the combo's byte stands.
+abbrev pub comboPlace : ℕ
+comboPlace = 64
+
+-- ---- the combo's number
+
+-- 1 is SIV_GCM, 2 is SIV_CTRMAC.
+unfoldable pub comboKnown : ℕ → Bool
+comboKnown n = eqb n 1 || eqb n 2
+
+-- The combo of a known number.
+unfoldable pub comboOf : ℕ → Combo
+comboOf n = cond (eqb n 1) SivGcm SivCtrmac
+
+-- ---- making
+
+-- The encryption master key, the MAC master key and the combo's number.
+abbrev pub joined : List ℕ → List ℕ → ℕ → List ℕ
+joined enc mac n = enc ++ mac ++ n ∷ []
+
+-- a key's size (1), the buffer too short (7), the combo unknown (17)
+unfoldable pub storeVaultRows : List ℕ → List ℕ → ℕ → ℕ → List Row
+storeVaultRows enc mac n room =
+    (not (masterKeysRight enc mac), refused 1)
+    ∷ (ltb room vaultSize, refused 7)
+    ∷ (not (comboKnown n), refused 17)
+    ∷ []
+
+unfoldable pub storeVault : List ℕ → List ℕ → ℕ → List ℕ → End
+storeVault enc mac n out = ending (answer (storeVaultRows enc mac n (length out)) (done (vaultSize ∷ []))) (filled (joined enc mac n) vaultSize out) out
+
+-- ---- lending
+
+-- The row that the bytes b give in place of a vault, tried before every row of a call: another number of bytes (1), the combo unknown (17); 0 where they
+-- are a vault.
+unfoldable pub lentRow : List ℕ → ℕ
+lentRow b = cond (eqb (length b) vaultSize) (cond (comboKnown (getD b comboPlace 0)) 0 17) 1
+
+-- The record that the bytes of a vault stand for.
+unfoldable pub vaultIn : List ℕ → Vault
+vaultIn b = vaultWith (take keySize b) (take keySize (drop keySize b)) (comboOf (getD b comboPlace 0))
+
+-- What a call comes to that is lent the bytes b: their row, or what it comes to under the record.
+unfoldable pub lent : {A : Type 0} → List ℕ → (Vault → A) → (ℕ → A) → A
+lent b call refusal = cond (eqb (lentRow b) 0) (call (vaultIn b)) (refusal (lentRow b))
+
+-- A call with the buffer `out`, which the row of the lent bytes leaves as it was.
+abbrev pub lentEnd : List ℕ → (Vault → End) → List ℕ → End
+lentEnd b call out = lent b call (λ row. ended (refused row) out)

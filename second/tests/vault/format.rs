@@ -1,0 +1,70 @@
+//! Sizes, as the format has them.
+
+use second::vault::{Combo, CHUNK_LEN};
+
+pub const VAULT: usize = 65;
+pub const LONGEST_CLEARTEXT: usize = 16_777_216;
+pub const LONGEST_PLAIN: usize = 146;
+pub const LONGEST_NAME: usize = 1020;
+pub const LONGEST_FULL_NAME: usize = 1388;
+pub const WRAPPED_KEY: usize = 40;
+
+/// The sizes that go by the combo.
+pub struct Sizes {
+    pub nonce: usize,
+    pub header: usize,
+    /// What a chunk has beside its cleartext.
+    pub overhead: usize,
+    /// A whole chunk as it is stored.
+    pub chunk: usize,
+    pub longest_file: usize,
+}
+
+impl Sizes {
+    /// The file of a cleartext of this length.
+    pub fn file(&self, cleartext: usize) -> usize {
+        self.header + cleartext + cleartext.div_ceil(CHUNK_LEN) * self.overhead
+    }
+}
+
+pub fn sizes(combo: Combo) -> Sizes {
+    match combo {
+        Combo::SivGcm => Sizes {
+            nonce: 12,
+            header: 68,
+            overhead: 28,
+            chunk: 32_796,
+            longest_file: 16_791_620,
+        },
+        Combo::SivCtrmac => Sizes {
+            nonce: 16,
+            header: 88,
+            overhead: 48,
+            chunk: 32_816,
+            longest_file: 16_801_880,
+        },
+    }
+}
+
+pub fn name(combo: Combo) -> &'static str {
+    match combo {
+        Combo::SivGcm => "SIV_GCM",
+        Combo::SivCtrmac => "SIV_CTRMAC",
+    }
+}
+
+pub fn other(combo: Combo) -> Combo {
+    match combo {
+        Combo::SivGcm => Combo::SivCtrmac,
+        Combo::SivCtrmac => Combo::SivGcm,
+    }
+}
+
+/// The combo of bytes that are a vault.
+pub fn combo_of(vault: &[u8]) -> Option<Combo> {
+    match vault {
+        [.., 1] if vault.len() == VAULT => Some(Combo::SivGcm),
+        [.., 2] if vault.len() == VAULT => Some(Combo::SivCtrmac),
+        _ => None,
+    }
+}
