@@ -22,9 +22,11 @@ test:
 	rt ci 2>&1 | tee "$$log"
 	$(MAKE) --no-print-directory libraries
 	mkdir -p target/examples
-	cc -std=c99 -Wall -Wextra -Werror -Iinclude examples/c/vault.c target/staticlib/libskrapnefja.a -o target/examples/vault
-	target/examples/vault
-	(cd bindings/rust && cargo test --offline && cargo run --offline --example vault)
+	for example in unlock vault; do
+		cc -std=c99 -Wall -Wextra -Werror -Iinclude "examples/c/$$example.c" target/staticlib/libskrapnefja.a -o "target/examples/$$example"
+		"target/examples/$$example"
+	done
+	(cd bindings/rust && cargo test --offline && cargo run --offline --example unlock && cargo run --offline --example vault)
 	(cd second && cargo test --release --offline)
 	tail -n 1 "$$log"
 

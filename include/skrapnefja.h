@@ -4,19 +4,20 @@
  * Slices
  *   A slice is a pointer and a number of bytes, and any bytes and lengths may be passed: a size that is wrong is refused.
  *   A pointer to no bytes may not be null: pass any other address with the length 0.
- *   `out`, `stored`, `full` of skrapnefja_write_name, and the numbers `length`, `full_length`, `reserved` and `at` are written to.
- *   None of them may overlap another argument. The numbers may not be null.
+ *   `out`, `stored`, `full` of skrapnefja_write_name, and the numbers `length`, `full_length`, `reserved` and `at` are written to,
+ *   and `combo` and `threshold` of skrapnefja_open_label. None of them may overlap another argument. The numbers may not be null.
  *
  * What is returned and written
  *   Each function returns SKRAPNEFJA_DONE, or the row of the refusal: the first that applies of those named at the function, in the
- *   order in which they are named there. A vault that is lent is looked at before all else: row 1 if it has another size than 65,
- *   then row 17. What row 1 says of keys and nonces is tried behind these.
+ *   order in which they are named there. A vault that is lent is looked at before all else: row 1 if it has another size than 66,
+ *   then, where a name is written or opened, row 18, then row 17. What row 1 says of keys and nonces is tried behind these.
  *   Done: the answer stands at the front of `out`, its length in `length`. Bytes of `out` past it, and `at`, are as before.
  *   Refused: nothing is written, but that row 10 writes the number of the chunk to `at`.
  *
  * The vault
- *   A vault is one record, its master keys and its cipher combo. skrapnefja_make_vault makes it, and it is lent to every other call
- *   but those on wrapped keys. Its bytes are keys: keep them as secret as keys, and wipe them when done, as the keys it is made of.
+ *   A vault is one record: its master keys, its cipher combo and its threshold. skrapnefja_make_vault makes it, and it is lent to
+ *   every other call but those on wrapped keys and on the label. Its bytes are keys: keep them as secret as keys, and wipe them when
+ *   done, as the keys it is made of.
  *   Sizes go by the combo. Where two are named, the first is that of SIV_GCM, the second that of SIV_CTRMAC.
  *
  * Keys and nonces
@@ -41,27 +42,32 @@ extern "C" {
 /* What a function returns. */
 enum skrapnefja_row {
     SKRAPNEFJA_DONE = 0,
-    SKRAPNEFJA_KEY_OR_NONCE_SIZE = 1, /* a vault has not 65 bytes, a key not 32, a nonce not 12 or 16, as the combo has it, or there
-                                         is not one nonce for each chunk */
+    SKRAPNEFJA_KEY_OR_NONCE_SIZE = 1, /* a vault has not 66 bytes, a key not 32, a raw key not 64, a nonce not 12 or 16, as the combo
+                                         has it, or there is not one nonce for each chunk */
     SKRAPNEFJA_DIRECTORY_ID = 2,      /* the directory ID has more than 36 bytes, or one that is not ASCII */
     SKRAPNEFJA_NAME = 3,              /* the name has no byte, more than 1,020, or is not proper text: well-formed UTF-8 without a
                                          zero byte and without '/'; at the openers of names tried last, behind row 12 */
     SKRAPNEFJA_LENGTH = 4,            /* no file of this combo has this length, or the cleartext is over the limit; a header isn't 68
                                          or 88 bytes, as the combo has it; a chunk's cleartext isn't 1 to 32,768 bytes, or the chunk
                                          not 29 to 32,796 or 49 to 32,816; a wrapped key isn't 40 */
-    SKRAPNEFJA_TEXT = 5,              /* the text of a name is broken; or of more than 220 characters at skrapnefja_open_name */
+    SKRAPNEFJA_TEXT = 5,              /* the text of a name is broken; or longer than the threshold at skrapnefja_open_name */
     SKRAPNEFJA_RANGE = 6,             /* the range ends behind the cleartext */
     SKRAPNEFJA_ROOM = 7,              /* a buffer has not the room for what goes into it */
     SKRAPNEFJA_REPEATED_NONCE = 8,    /* two chunk nonces of a file to write are equal */
     SKRAPNEFJA_HEADER = 9,            /* the header's tag (SIV_GCM) or MAC (SIV_CTRMAC) is wrong */
     SKRAPNEFJA_CHUNK = 10,            /* the tag or MAC of a chunk that is needed is wrong; `at` is the lowest such chunk's number */
-    SKRAPNEFJA_HASH_NAME = 11,        /* the full name has 220 characters or fewer, or the stored name isn't its hash name */
+    SKRAPNEFJA_HASH_NAME = 11,        /* the full name is no longer than the threshold, or the stored name isn't its hash name */
     SKRAPNEFJA_SYNTHETIC_IV = 12,     /* the name's synthetic IV doesn't match, as other keys, another directory or damage can cause */
+    SKRAPNEFJA_LABEL = 13,            /* the label is over 4,096 bytes or malformed, as said at skrapnefja_open_label */
+    SKRAPNEFJA_ALG = 14,              /* the label's "alg" isn't HS256 */
+    SKRAPNEFJA_SIGNATURE = 15,        /* the label's signature is wrong, as another raw key or damage can cause */
+    SKRAPNEFJA_FORMAT = 16,           /* the label's "format" isn't 8 */
     SKRAPNEFJA_COMBO = 17,            /* the combo is neither SIV_GCM nor SIV_CTRMAC */
+    SKRAPNEFJA_THRESHOLD = 18,        /* the threshold isn't 36 to 220 */
     SKRAPNEFJA_CHECK_VALUE = 20       /* the check value of a wrapped key is wrong, as another key-encryption key or damage can cause */
 };
 
-/* The cipher combos: how the contents of files are encrypted. vault.cryptomator has a vault's as "cipherCombo". */
+/* The cipher combos: how the contents of files are encrypted. The label has a vault's as "cipherCombo". */
 enum skrapnefja_combo {
     SKRAPNEFJA_SIV_GCM = 1,   /* AES in Galois/Counter Mode */
     SKRAPNEFJA_SIV_CTRMAC = 2 /* AES in counter mode and HMAC-SHA-256, as older vaults have it */
@@ -70,7 +76,9 @@ enum skrapnefja_combo {
 /* Sizes in bytes. */
 #define SKRAPNEFJA_KEY_SIZE 32                  /* a master key, a content key, a key-encryption key */
 #define SKRAPNEFJA_WRAPPED_KEY_SIZE 40          /* a wrapped key */
-#define SKRAPNEFJA_VAULT_SIZE 65                /* a vault */
+#define SKRAPNEFJA_RAW_KEY_SIZE 64              /* a raw key: the encryption master key, then the MAC master key */
+#define SKRAPNEFJA_LABEL_MAX 4096               /* a label, at most */
+#define SKRAPNEFJA_VAULT_SIZE 66                /* a vault */
 #define SKRAPNEFJA_SIV_GCM_NONCE_SIZE 12        /* the nonce of a header or a chunk */
 #define SKRAPNEFJA_SIV_GCM_HEADER_SIZE 68       /* a header as it is stored */
 #define SKRAPNEFJA_SIV_GCM_CHUNK_OVERHEAD 28    /* what a chunk as it is stored has more than its cleartext */
@@ -82,10 +90,12 @@ enum skrapnefja_combo {
 #define SKRAPNEFJA_DIR_ID_MAX 36                /* a directory ID, at most */
 #define SKRAPNEFJA_PATH_SIZE 36                 /* the path of a directory */
 #define SKRAPNEFJA_NAME_MAX 1020                /* a name, at most */
-#define SKRAPNEFJA_STORED_NAME_MAX 220          /* a name as it is stored, at most */
+#define SKRAPNEFJA_THRESHOLD_MIN 36             /* a threshold, at least: the length of the longest full name that is stored as it is */
+#define SKRAPNEFJA_THRESHOLD_MAX 220            /* a threshold, at most */
+#define SKRAPNEFJA_STORED_NAME_MAX 220          /* a name as it is stored, at most, whatever the threshold */
 #define SKRAPNEFJA_FULL_NAME_MAX 1388           /* the full name of a shortened name, at most */
 
-/* A vault: the encryption master key, the MAC master key, and in one byte the number of the combo. */
+/* A vault: the encryption master key, the MAC master key, the number of the combo in one byte, and the threshold in one. */
 typedef struct skrapnefja_vault {
     uint8_t bytes[SKRAPNEFJA_VAULT_SIZE];
 } skrapnefja_vault;
@@ -109,14 +119,31 @@ uint32_t skrapnefja_wrap_key(const uint8_t *kek, size_t kek_len, const uint8_t *
                              uint8_t *out, size_t out_len, uint64_t *length);
 
 /*
+ * ---- The label: vault.cryptomator, from its first byte to its last. It is HEADER.PAYLOAD.SIGNATURE, each of the three in unpadded
+ * base64url with zero spare bits (RFC 7515), and has 4,096 bytes at most. The signature is HMAC-SHA-256 of HEADER.PAYLOAD under the
+ * raw key, which is `enc` and then `mac`. Header and payload are JSON objects (RFC 8259) in UTF-8, with no byte order mark. The header
+ * has the string "alg", the payload the string "cipherCombo" and the whole numbers, without point and exponent, "format" and
+ * "shorteningThreshold", each once. Other members may be anything, up to eight arrays and objects deep, and may repeat.
+ */
+
+/*
+ * Opens a label: writes the number of its combo to `combo` and its threshold, 36 to 220, to `threshold`. A label that is not as said
+ * above gets row 13, also for a newline behind it, and row 15 where only the signature is another, be it in its length. Names and
+ * strings are compared after their escapes are read. Rows 1, 13, 14, 15, 16, 17, 18.
+ */
+uint32_t skrapnefja_open_label(const uint8_t *raw_key, size_t raw_key_len, const uint8_t *label, size_t label_len,
+                               uint32_t *combo, uint32_t *threshold);
+
+/*
  * ---- The vault, which is lent to every call from here on:
- *     skrapnefja_make_vault(enc, sizeof enc, mac, sizeof mac, SKRAPNEFJA_SIV_GCM, SKRAPNEFJA_VAULT(vault), &length);
+ *     skrapnefja_open_label(raw_key, sizeof raw_key, label, label_len, &combo, &threshold);
+ *     skrapnefja_make_vault(enc, sizeof enc, mac, sizeof mac, combo, threshold, SKRAPNEFJA_VAULT(vault), &length);
  *     skrapnefja_open_file(SKRAPNEFJA_VAULT(vault), file, file_len, out, out_len, &length, &at);
  */
 
-/* Makes the vault of the encryption and the MAC master key and of a combo: writes it, 65 bytes. Rows 1, 7, 17. */
+/* Makes the vault of the encryption and the MAC master key, a combo and a threshold: writes it, 66 bytes. Rows 1, 7, 17, 18. */
 uint32_t skrapnefja_make_vault(const uint8_t *enc, size_t enc_len, const uint8_t *mac, size_t mac_len, uint32_t combo,
-                               uint8_t *out, size_t out_len, uint64_t *length);
+                               uint32_t threshold, uint8_t *out, size_t out_len, uint64_t *length);
 
 /* ---- Lengths: by these a caller sizes its buffers. They go by the vault's combo, and its keys do not matter. */
 
@@ -187,9 +214,9 @@ uint32_t skrapnefja_open_chunk(const uint8_t *vault, size_t vault_len,
 
 /*
  * ---- Names and directories, which are the same in both combos. A directory ID is text of at most 36 bytes; that of the root is
- * empty. A full name is the encrypted name as text that ends in ".c9r". Up to 220 characters it is what is stored; in place of a
- * longer one its hash name is stored, 32 characters that end in ".c9s". Buffers of SKRAPNEFJA_STORED_NAME_MAX,
- * SKRAPNEFJA_FULL_NAME_MAX and SKRAPNEFJA_NAME_MAX bytes have room for any name: row 7 is not given.
+ * empty. A full name is the encrypted name as text that ends in ".c9r". With as many characters as the vault's threshold, or fewer,
+ * it is what is stored; in place of a longer one its hash name is stored, 32 characters that end in ".c9s". Buffers of
+ * SKRAPNEFJA_STORED_NAME_MAX, SKRAPNEFJA_FULL_NAME_MAX and SKRAPNEFJA_NAME_MAX bytes have room for any name: row 7 is not given.
  */
 
 /*
@@ -197,21 +224,21 @@ uint32_t skrapnefja_open_chunk(const uint8_t *vault, size_t vault_len,
  * without a zero byte and without '/', or row 3. That it is in Unicode's Normalization Form C is the caller's to see to. Where
  * the full name is stored, `length` is its length, `full_length` is 0, and `full` is neither needed nor written. Where it is
  * shortened, `stored` gets the hash name, and `full` the full name, of `full_length` characters, at most 1,388.
- * Rows 1, 17, 2, 3, 7.
+ * Rows 1, 18, 17, 2, 3, 7.
  */
 uint32_t skrapnefja_write_name(const uint8_t *vault, size_t vault_len,
                                const uint8_t *dir_id, size_t dir_id_len, const uint8_t *name, size_t name_len,
                                uint8_t *stored, size_t stored_len, uint8_t *full, size_t full_len,
                                uint64_t *length, uint64_t *full_length);
 
-/* Opens a stored name that is a full name, unshortened: writes the name, which is proper text. Rows 1, 17, 2, 5, 7, 12, 3. */
+/* Opens a stored name that is a full name, unshortened: writes the name, which is proper text. Rows 1, 18, 17, 2, 5, 7, 12, 3. */
 uint32_t skrapnefja_open_name(const uint8_t *vault, size_t vault_len,
                               const uint8_t *dir_id, size_t dir_id_len, const uint8_t *stored, size_t stored_len,
                               uint8_t *out, size_t out_len, uint64_t *length);
 
 /*
  * Opens a shortened name, by what is stored and its full name: writes the name, which is proper text.
- * Rows 1, 17, 2, 5, 7, 11, 12, 3.
+ * Rows 1, 18, 17, 2, 5, 7, 11, 12, 3.
  */
 uint32_t skrapnefja_open_long_name(const uint8_t *vault, size_t vault_len,
                                    const uint8_t *dir_id, size_t dir_id_len, const uint8_t *stored, size_t stored_len,

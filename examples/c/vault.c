@@ -1,8 +1,8 @@
 /*
- * Unwraps a vault's master keys and makes the vault, writes a file of two chunks in both combos and reads it back, then writes two names
- * and opens them, and has a third refused. Ends with status 0 if all is as expected.
- * The key-encryption key, the content key and the nonces are fixed here so that each run prints the same; a real program gets the first from
- * scrypt, draws the others from a random generator, and wipes keys and vaults when done.
+ * Makes a vault of each combo, writes a file of two chunks in both and reads it back, then writes names in them and opens these, and
+ * has one refused. Ends with status 0 if all is as expected.
+ * The keys and the nonces are fixed here so that each run prints the same; a real program gets the master keys as unlock.c does,
+ * draws the content key and the nonces from a random generator, and wipes keys and vaults when done.
  */
 #include <inttypes.h>
 #include <stdint.h>
@@ -21,6 +21,7 @@
 struct club_vault {
     const char *combo_name;
     uint32_t combo;
+    uint32_t threshold;
     size_t nonce_size;
     size_t header_size;
     size_t file_size;
@@ -28,10 +29,11 @@ struct club_vault {
     uint8_t file[CTRMAC_FILE_SIZE];
 };
 
-/* A club has an older vault beside its own. Here both are under the same master keys. */
+/* A club has an older vault beside its own, and that one shortens names early. Here both are under the same master keys. */
 static struct club_vault own = {
     .combo_name = "SIV_GCM",
     .combo = SKRAPNEFJA_SIV_GCM,
+    .threshold = SKRAPNEFJA_THRESHOLD_MAX,
     .nonce_size = SKRAPNEFJA_SIV_GCM_NONCE_SIZE,
     .header_size = SKRAPNEFJA_SIV_GCM_HEADER_SIZE,
     .file_size = GCM_FILE_SIZE,
@@ -39,13 +41,14 @@ static struct club_vault own = {
 static struct club_vault older = {
     .combo_name = "SIV_CTRMAC",
     .combo = SKRAPNEFJA_SIV_CTRMAC,
+    .threshold = SKRAPNEFJA_THRESHOLD_MIN,
     .nonce_size = SKRAPNEFJA_SIV_CTRMAC_NONCE_SIZE,
     .header_size = SKRAPNEFJA_SIV_CTRMAC_HEADER_SIZE,
     .file_size = CTRMAC_FILE_SIZE,
 };
 
-static uint8_t enc[SKRAPNEFJA_KEY_SIZE];
-static uint8_t mac[SKRAPNEFJA_KEY_SIZE];
+static const uint8_t enc[SKRAPNEFJA_KEY_SIZE] = {1};
+static const uint8_t mac[SKRAPNEFJA_KEY_SIZE] = {2};
 
 static uint8_t cleartext[CLEAR_SIZE];
 static uint8_t opened[CTRMAC_FILE_SIZE]; /* has room for the cleartext of a file of this length in either combo */
@@ -69,69 +72,39 @@ static int all_untouched(const uint8_t *bytes, size_t count)
     return 1;
 }
 
-/* What "primaryMasterKey" and "hmacMasterKey" of masterkey.cryptomator stand for in base64. */
-static const uint8_t primary_master_key[SKRAPNEFJA_WRAPPED_KEY_SIZE] = {
-    0x0B, 0xE9, 0x70, 0x71, 0x12, 0x07, 0x34, 0x05, 0xEA, 0x2B, 0xF9, 0xD6, 0x17, 0xCF, 0x45, 0x9C,
-    0xC9, 0x8A, 0xC9, 0x17, 0xA2, 0x62, 0x5A, 0x47, 0x22, 0x50, 0x4A, 0x30, 0x30, 0xA9, 0x72, 0x54,
-    0x69, 0x43, 0x99, 0x75, 0x26, 0x4A, 0x60, 0xB8};
-static const uint8_t hmac_master_key[SKRAPNEFJA_WRAPPED_KEY_SIZE] = {
-    0xA2, 0x19, 0xF2, 0x8F, 0x70, 0x03, 0xEB, 0x79, 0x45, 0xE4, 0xBB, 0xA5, 0x78, 0x4D, 0xBD, 0x46,
-    0x29, 0x56, 0xF2, 0x8C, 0x86, 0x5E, 0xED, 0x83, 0x0A, 0xA6, 0x51, 0xE2, 0x0C, 0x23, 0xA2, 0xB9,
-    0x92, 0x49, 0xA8, 0x49, 0xA6, 0x8E, 0x6F, 0xFD};
-
-/* Under the key-encryption key, which a real program gets from scrypt of the password. */
-static void unwrap_the_master_keys(void)
-{
-    static const uint8_t kek[SKRAPNEFJA_KEY_SIZE] = {9};
-    static const uint8_t other_kek[SKRAPNEFJA_KEY_SIZE] = {10};
-    uint8_t wrapped[SKRAPNEFJA_WRAPPED_KEY_SIZE];
-    uint64_t length = 99;
-    uint32_t row;
-
-    memset(enc, UNTOUCHED, sizeof enc);
-    row = skrapnefja_unwrap_key(other_kek, sizeof other_kek, primary_master_key, sizeof primary_master_key, enc, sizeof enc,
-                                &length);
-    check(row == SKRAPNEFJA_CHECK_VALUE, "another password");
-    check(length == 99 && all_untouched(enc, sizeof enc), "no key for another password");
-    printf("unwrapped a master key under another password: refused %" PRIu32 "\n", row);
-
-    check(skrapnefja_unwrap_key(kek, sizeof kek, primary_master_key, sizeof primary_master_key, enc, sizeof enc, &length)
-              == SKRAPNEFJA_DONE,
-          "unwrapping the encryption master key");
-    check(skrapnefja_unwrap_key(kek, sizeof kek, hmac_master_key, sizeof hmac_master_key, mac, sizeof mac, &length)
-              == SKRAPNEFJA_DONE,
-          "unwrapping the MAC master key");
-    check(length == SKRAPNEFJA_KEY_SIZE && enc[0] == 1 && mac[0] == 2, "the master keys");
-    printf("unwrapped the master keys: %" PRIu64 " bytes each\n", length);
-
-    check(skrapnefja_wrap_key(kek, sizeof kek, mac, sizeof mac, wrapped, sizeof wrapped, &length) == SKRAPNEFJA_DONE,
-          "wrapping the MAC master key");
-    check(length == sizeof wrapped && memcmp(wrapped, hmac_master_key, sizeof wrapped) == 0, "the wrapped key");
-}
-
 static void make_the_vault(struct club_vault *club)
 {
     uint64_t length = 0;
 
-    check(skrapnefja_make_vault(enc, sizeof enc, mac, sizeof mac, club->combo, SKRAPNEFJA_VAULT(club->vault), &length)
-              == SKRAPNEFJA_DONE,
+    check(skrapnefja_make_vault(enc, sizeof enc, mac, sizeof mac, club->combo, club->threshold, SKRAPNEFJA_VAULT(club->vault),
+                                &length) == SKRAPNEFJA_DONE,
           "making the vault");
     check(length == SKRAPNEFJA_VAULT_SIZE, "size of the vault");
-    printf("made a vault of %s\n", club->combo_name);
+    printf("made a vault of %s with the threshold %" PRIu32 "\n", club->combo_name, club->threshold);
 }
 
-/* An unknown combo is refused where a vault is made and where it is lent, and so is a vault of another size. */
+/*
+ * An unknown combo and a threshold outside the limits are refused where a vault is made and where it is lent, the threshold there by
+ * the calls on names only. So is a lent vault of another size.
+ */
 static void refuse_other_vaults(void)
 {
     skrapnefja_vault vault;
+    uint8_t name[SKRAPNEFJA_NAME_MAX];
     uint64_t length = 99;
     uint32_t row;
 
     memset(vault.bytes, UNTOUCHED, sizeof vault.bytes);
-    row = skrapnefja_make_vault(enc, sizeof enc, mac, sizeof mac, 3, SKRAPNEFJA_VAULT(vault), &length);
+    row = skrapnefja_make_vault(enc, sizeof enc, mac, sizeof mac, 3, own.threshold, SKRAPNEFJA_VAULT(vault), &length);
     check(row == SKRAPNEFJA_COMBO, "an unknown combo");
     check(length == 99 && all_untouched(vault.bytes, sizeof vault.bytes), "no vault of an unknown combo");
     printf("made a vault of combo 3: refused %" PRIu32 "\n", row);
+
+    row = skrapnefja_make_vault(enc, sizeof enc, mac, sizeof mac, own.combo, SKRAPNEFJA_THRESHOLD_MAX + 1, SKRAPNEFJA_VAULT(vault),
+                                &length);
+    check(row == SKRAPNEFJA_THRESHOLD, "a threshold outside the limits");
+    check(length == 99 && all_untouched(vault.bytes, sizeof vault.bytes), "no vault with such a threshold");
+    printf("made a vault with the threshold 221: refused %" PRIu32 "\n", row);
 
     row = skrapnefja_file_length(SKRAPNEFJA_VAULT(vault), CLEAR_SIZE, &length);
     check(row == SKRAPNEFJA_COMBO && length == 99, "a vault that was not made");
@@ -139,7 +112,13 @@ static void refuse_other_vaults(void)
 
     row = skrapnefja_file_length(own.vault.bytes, SKRAPNEFJA_VAULT_SIZE - 1, CLEAR_SIZE, &length);
     check(row == SKRAPNEFJA_KEY_OR_NONCE_SIZE && length == 99, "a vault of another size");
-    printf("lent a vault of 64 bytes: refused %" PRIu32 "\n", row);
+    printf("lent a vault of 65 bytes: refused %" PRIu32 "\n", row);
+
+    vault = own.vault;
+    vault.bytes[SKRAPNEFJA_VAULT_SIZE - 1] = SKRAPNEFJA_THRESHOLD_MIN - 1;
+    row = skrapnefja_open_name(SKRAPNEFJA_VAULT(vault), enc, 0, enc, 0, name, sizeof name, &length);
+    check(row == SKRAPNEFJA_THRESHOLD && length == 99, "a vault with another threshold");
+    printf("opened a name with the threshold 35: refused %" PRIu32 "\n", row);
 }
 
 static void write_the_file(struct club_vault *club)
@@ -278,6 +257,40 @@ static void write_and_open_a_name(void)
     printf("opened it: %.*s\n", (int)length, (const char *)out);
 }
 
+/*
+ * In the older vault the same name is shortened. Its full name does not open there as a stored name, and the pair of both does not
+ * open where the full name itself is stored.
+ */
+static void shorten_by_the_threshold(void)
+{
+    static const uint8_t name[13] = "timetable.txt";
+    uint8_t hash[SKRAPNEFJA_STORED_NAME_MAX];
+    uint8_t full[SKRAPNEFJA_FULL_NAME_MAX];
+    uint8_t out[SKRAPNEFJA_NAME_MAX];
+    uint64_t hash_length = 0;
+    uint64_t full_length = 0;
+    uint64_t length = 0;
+    uint32_t row;
+
+    check(skrapnefja_write_name(SKRAPNEFJA_VAULT(older.vault), enc, 0, name, sizeof name, hash, sizeof hash, full, sizeof full,
+                                &hash_length, &full_length) == SKRAPNEFJA_DONE,
+          "writing the name in the older vault");
+    check(hash_length == 32 && full_length == 44, "lengths of the name there");
+    check(skrapnefja_open_long_name(SKRAPNEFJA_VAULT(older.vault), enc, 0, hash, (size_t)hash_length, full, (size_t)full_length,
+                                    out, sizeof out, &length) == SKRAPNEFJA_DONE,
+          "opening it there");
+    check(length == sizeof name && memcmp(out, name, sizeof name) == 0, "the name there");
+    printf("with the threshold %" PRIu32 " it is stored as %.*s\n", older.threshold, (int)hash_length, (const char *)hash);
+
+    row = skrapnefja_open_name(SKRAPNEFJA_VAULT(older.vault), enc, 0, full, (size_t)full_length, out, sizeof out, &length);
+    check(row == SKRAPNEFJA_TEXT, "a full name over the threshold");
+    printf("opened its full name there: refused %" PRIu32 "\n", row);
+    row = skrapnefja_open_long_name(SKRAPNEFJA_VAULT(own.vault), enc, 0, hash, (size_t)hash_length, full, (size_t)full_length, out,
+                                    sizeof out, &length);
+    check(row == SKRAPNEFJA_HASH_NAME, "a full name that is not shortened");
+    printf("opened both with the threshold %" PRIu32 ": refused %" PRIu32 "\n", own.threshold, row);
+}
+
 /* A name with a byte that is not UTF-8 is refused, and nothing is stored. */
 static void refuse_a_stray_byte(void)
 {
@@ -329,13 +342,13 @@ static void write_and_open_a_long_name(void)
 
 int main(void)
 {
-    unwrap_the_master_keys();
     make_the_vault(&own);
     make_the_vault(&older);
     refuse_other_vaults();
     use_the_vault(&own, &older);
     use_the_vault(&older, &own);
     write_and_open_a_name();
+    shorten_by_the_threshold();
     write_and_open_a_long_name();
     refuse_a_stray_byte();
     return 0;

@@ -1,7 +1,7 @@
 //! Cryptomator vaults (format 8, SIV_GCM and SIV_CTRMAC) in plain Rust, and
 //! below them AES with the modes CTR, GCM, CMAC and SIV and key wrap, SHA-1,
-//! SHA-256 with HMAC and text encodings, written from the standards that each
-//! module names.
+//! SHA-256 with HMAC, text encodings and JSON, written from the standards that
+//! each module names.
 //!
 //! AES and GHASH work by table lookups at places that depend on the key and
 //! the data, so the time they take can tell about them to a program that
@@ -19,6 +19,7 @@ pub mod gcm;
 pub mod ghash;
 pub mod hex;
 pub mod hmac;
+pub mod json;
 pub mod key_wrap;
 mod sha;
 pub mod sha1;

@@ -15,7 +15,7 @@ pub fn is_proper(text: &[u8]) -> bool {
 
 /// The number of the first character, and how many bytes it takes; `None` if
 /// there are no bytes, or not those of a character.
-fn first(text: &[u8]) -> Option<(u32, usize)> {
+pub fn first(text: &[u8]) -> Option<(u32, usize)> {
     let lead = *text.first()?;
     let (bits, tails, least) = match lead.leading_ones() {
         0 => return Some((lead.into(), 1)),

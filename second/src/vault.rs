@@ -1,5 +1,5 @@
-//! Vaults of format 8 with the cipher combos SIV_GCM and SIV_CTRMAC, and the
-//! wrapping of their master keys.
+//! Vaults of format 8 with the cipher combos SIV_GCM and SIV_CTRMAC, their
+//! labels, and the wrapping of their master keys.
 //!
 //! A call tries its rows of the table of refusals in order, and writes only
 //! when none of them applies. It gives the length of what it wrote; a buffer
@@ -12,6 +12,7 @@ mod combo;
 mod directory;
 mod file;
 mod header;
+mod label;
 mod lengths;
 mod master_key;
 mod name;
@@ -21,9 +22,11 @@ mod refusal;
 mod samples;
 mod sizes;
 mod text;
+mod threshold;
 
 pub use bytes::{make_vault, VAULT_LEN};
 pub use combo::Combo;
+pub use label::open_label;
 pub use lengths::{CHUNK_LEN, MAX_CLEARTEXT_LEN};
 pub use master_key::{unwrap_key, wrap_key};
 pub use name::WrittenName;

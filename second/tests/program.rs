@@ -49,7 +49,7 @@ fn longest() -> Vec<u8> {
     let mut input = [enc, mac].concat();
     input.resize(MOST, 0);
     let file = &mut input[64..];
-    let vault = Vault::new(&enc, &mac, Combo::SivGcm).expect("two keys");
+    let vault = Vault::new(&enc, &mac, Combo::SivGcm, 220).expect("two keys");
     let length = vault.write_file(&[4; 12], &[5; 32], &nonces, &cleartext, file);
     assert_eq!(length, Ok(MOST - 64));
     input

@@ -1,24 +1,22 @@
-//! Unwraps a vault's master keys, writes a file in both combos and two names as
-//! the vault stores them, and reads them again.
+//! Makes a vault of each combo, writes a file in both, and names as the vaults
+//! store them, and reads them again.
 
-use skrapnefja::{Combo, Refusal, Vault, WrittenName, KEY_LEN, WRAPPED_KEY_LEN};
+use skrapnefja::{Combo, Label, Refusal, Vault, WrittenName, KEY_LEN};
 
-/// `primaryMasterKey` of `masterkey.cryptomator`.
-#[rustfmt::skip]
-const PRIMARY_MASTER_KEY: [u8; WRAPPED_KEY_LEN] = [
-    0xc1, 0x89, 0xb7, 0x60, 0x69, 0x14, 0x35, 0x23, 0x1e, 0x88,
-    0x0b, 0x40, 0x79, 0xde, 0xec, 0x1c, 0xf6, 0x10, 0xad, 0x37,
-    0x45, 0x3e, 0xfd, 0xbc, 0xf4, 0x04, 0xf2, 0xe6, 0x64, 0x0d,
-    0x12, 0xd4, 0xd2, 0x57, 0x0e, 0x99, 0x33, 0xfd, 0x4e, 0x56,
-];
-/// `hmacMasterKey` of `masterkey.cryptomator`.
-#[rustfmt::skip]
-const HMAC_MASTER_KEY: [u8; WRAPPED_KEY_LEN] = [
-    0xeb, 0x93, 0xd9, 0xeb, 0x5c, 0x5a, 0x02, 0xd4, 0x4f, 0xc4,
-    0xb3, 0xb4, 0x30, 0xce, 0xb8, 0x7c, 0x93, 0x11, 0x41, 0xb5,
-    0x1c, 0x8c, 0x3f, 0x89, 0x78, 0x5c, 0x34, 0x3d, 0x2d, 0x69,
-    0x9e, 0x39, 0xc7, 0xf1, 0x21, 0xe0, 0x12, 0x68, 0x0e, 0xf3,
-];
+/// The master keys, which a program gets as `unlock.rs` does.
+const ENC: [u8; KEY_LEN] = [1; KEY_LEN];
+const MAC: [u8; KEY_LEN] = [2; KEY_LEN];
+
+/// A club has an older vault beside its own, and that one shortens names early.
+/// Here both are under the same master keys.
+const OWN: Label = Label {
+    combo: Combo::SivGcm,
+    threshold: 220,
+};
+const OLDER: Label = Label {
+    combo: Combo::SivCtrmac,
+    threshold: 36,
+};
 
 /// What the file holds.
 const LOG: &[u8] = b"14:02 handset 7 takes train 12\n14:05 handset 7 stops train 12\n";
@@ -27,12 +25,8 @@ const LOG: &[u8] = b"14:02 handset 7 takes train 12\n14:05 handset 7 stops train
 const CONTENT_KEY: [u8; KEY_LEN] = [3; KEY_LEN];
 
 fn main() -> Result<(), Refusal> {
-    let [enc, mac] = master_keys()?;
-    assert_eq!([enc, mac], [[1; KEY_LEN], [2; KEY_LEN]]);
-    // A club has an older vault beside its own. Here both are under the same
-    // master keys.
-    let vault = Vault::new(&enc, &mac, Combo::SivGcm)?;
-    let older = Vault::new(&enc, &mac, Combo::SivCtrmac)?;
+    let vault = Vault::new(&ENC, &MAC, OWN)?;
+    let older = Vault::new(&ENC, &MAC, OLDER)?;
 
     for (vault, other) in [(&vault, &older), (&older, &vault)] {
         let file = written(vault)?;
@@ -40,25 +34,9 @@ fn main() -> Result<(), Refusal> {
         the_other_combo(other, &file)?;
     }
     name(&vault)?;
+    shortened_name(&older, &vault)?;
     stray_byte(&vault);
     long_name(&vault)
-}
-
-/// The master keys, under the key-encryption key that a real program gets from
-/// scrypt of the password; under that of another password there are none.
-fn master_keys() -> Result<[[u8; KEY_LEN]; 2], Refusal> {
-    let (kek, other_kek) = ([9; KEY_LEN], [10; KEY_LEN]);
-    let (mut enc, mut mac) = ([0; KEY_LEN], [0; KEY_LEN]);
-    let other = skrapnefja::unwrap_key(&other_kek, &PRIMARY_MASTER_KEY, &mut enc);
-    assert_eq!((other, enc), (Err(Refusal::CheckValue), [0; KEY_LEN]));
-    println!("another password: row 20, {}", Refusal::CheckValue);
-
-    skrapnefja::unwrap_key(&kek, &PRIMARY_MASTER_KEY, &mut enc)?;
-    skrapnefja::unwrap_key(&kek, &HMAC_MASTER_KEY, &mut mac)?;
-    let mut wrapped = [0; WRAPPED_KEY_LEN];
-    skrapnefja::wrap_key(&kek, &mac, &mut wrapped)?;
-    assert_eq!(wrapped, HMAC_MASTER_KEY);
-    Ok([enc, mac])
 }
 
 /// The file of the log. Its nonces are for show only, as the content key is.
@@ -117,7 +95,7 @@ fn name(vault: &Vault) -> Result<(), Refusal> {
     let mut full = [0; skrapnefja::MAX_FULL_LEN];
     let written = vault.write_name(b"", b"log.txt", &mut stored, &mut full)?;
     let WrittenName::Plain(length) = written else {
-        unreachable!("a name of up to 146 bytes is stored as it is");
+        unreachable!("with the threshold 220, a name of up to 146 bytes is stored as it is");
     };
     let stored = &stored[..length];
     println!(
@@ -131,6 +109,32 @@ fn name(vault: &Vault) -> Result<(), Refusal> {
     let length = vault.open_name(b"", stored, &mut name)?;
     let name = std::str::from_utf8(&name[..length]).expect("proper text");
     println!("which is {name}");
+    Ok(())
+}
+
+/// In the older vault a name of 9 bytes is shortened. Its full name does not
+/// open there as a stored name, and the pair of both does not open where the
+/// full name itself is stored.
+fn shortened_name(older: &Vault, vault: &Vault) -> Result<(), Refusal> {
+    let mut stored = [0; skrapnefja::MAX_STORED_LEN];
+    let mut full = [0; skrapnefja::MAX_FULL_LEN];
+    let written = older.write_name(b"", b"train.log", &mut stored, &mut full)?;
+    let WrittenName::Shortened { stored: s, full: f } = written else {
+        unreachable!("the full name of 9 bytes has 40 characters");
+    };
+    let (stored, full) = (&stored[..s], &full[..f]);
+
+    let mut opened = [0; skrapnefja::MAX_NAME_LEN];
+    let length = older.open_long_name(b"", stored, full, &mut opened)?;
+    assert_eq!(&opened[..length], b"train.log");
+    let plain = older.open_name(b"", full, &mut opened);
+    assert_eq!(plain, Err(Refusal::Text));
+    let pair = vault.open_long_name(b"", stored, full, &mut opened);
+    assert_eq!(pair, Err(Refusal::HashName));
+    println!(
+        "with the threshold 36, 9 bytes stored as {}",
+        String::from_utf8_lossy(stored)
+    );
     Ok(())
 }
 

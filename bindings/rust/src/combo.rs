@@ -12,6 +12,15 @@ pub enum Combo {
 }
 
 impl Combo {
+    /// The combo that has this number in C.
+    pub(crate) fn numbered(number: u32) -> Self {
+        match number {
+            1 => Combo::SivGcm,
+            2 => Combo::SivCtrmac,
+            _ => unreachable!("the library has no combo {number}"),
+        }
+    }
+
     /// The bytes in the nonce of a header or a chunk: 12 in SIV_GCM, 16 in
     /// SIV_CTRMAC.
     pub const fn nonce_len(self) -> usize {

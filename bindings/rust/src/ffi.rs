@@ -2,17 +2,27 @@
 //!
 //! A slice is a pointer and a length; the pointer may not be null, also if the
 //! length is 0. Each function gives 0 for done, or else the row of the
-//! refusal. It sets `length`, `full_length` and `reserved` only if it gives 0,
-//! and `at` only if it gives 10. No buffer or result may overlap anything else
-//! that is passed.
+//! refusal. It sets `length`, `full_length`, `reserved`, and `combo` and
+//! `threshold` of a label, only if it gives 0, and `at` only if it gives 10. No
+//! buffer or result may overlap anything else that is passed.
 
 extern "C" {
+    pub fn skrapnefja_open_label(
+        raw_key: *const u8,
+        raw_key_len: usize,
+        label: *const u8,
+        label_len: usize,
+        combo: *mut u32,
+        threshold: *mut u32,
+    ) -> u32;
+
     pub fn skrapnefja_make_vault(
         enc: *const u8,
         enc_len: usize,
         mac: *const u8,
         mac_len: usize,
         combo: u32,
+        threshold: u32,
         out: *mut u8,
         out_len: usize,
         length: *mut u64,

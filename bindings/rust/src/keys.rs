@@ -24,7 +24,8 @@ pub fn wrap_key(kek: &[u8], key: &[u8], out: &mut [u8]) -> Result<usize, Refusal
 /// `masterkey.cryptomator` has a vault's master keys as `primaryMasterKey`
 /// (`enc`) and `hmacMasterKey` (`mac`), both in base64. The key-encryption key
 /// is scrypt of the password (RFC 7914: salt `scryptSalt`, N `scryptCostParam`,
-/// r `scryptBlockSize`, p 1, 32 bytes), which this crate does not have:
+/// r `scryptBlockSize`, p 1, 32 bytes), which this crate does not have. Both
+/// keys then open the vault's label ([`Label::open`](crate::Label::open)).
 ///
 /// ```
 /// use skrapnefja::{unwrap_key, wrap_key, Refusal};

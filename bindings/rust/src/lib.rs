@@ -9,7 +9,8 @@
 //!
 //! A [`Vault`] is made of the two master keys of the vault, `enc` and `mac`, 32
 //! bytes each, which [`unwrap_key`] unwraps from the values in
-//! `masterkey.cryptomator`, and of its [`Combo`]. Its methods are the calls.
+//! `masterkey.cryptomator`, and of its [`Label`], which [`Label::open`] reads
+//! from `vault.cryptomator`. Its methods are the calls.
 //!
 //! Nonces have [`Combo::nonce_len`] bytes. They and the content key of a file
 //! are the caller's to choose at random, and never to use twice: GCM is broken
@@ -18,7 +19,7 @@
 //! that is a little higher than another repeats a part of it.
 //!
 //! ```
-//! use skrapnefja::{Combo, Refusal, Vault};
+//! use skrapnefja::{Combo, Label, Refusal, Vault};
 //!
 //! fn read(vault: &Vault, file: &[u8]) -> Result<Vec<u8>, Refusal> {
 //!     let mut cleartext = vec![0; vault.cleartext_length(file.len() as u64)?];
@@ -26,14 +27,16 @@
 //!     Ok(cleartext)
 //! }
 //!
-//! let vault = Vault::new(&[0; 32], &[0; 32], Combo::SivGcm)?;
+//! let label = Label { combo: Combo::SivGcm, threshold: 220 };
+//! let vault = Vault::new(&[0; 32], &[0; 32], label)?;
 //! let refusal = read(&vault, b"not a file").unwrap_err();
 //! assert_eq!(refusal, Refusal::Length);
 //! assert_eq!(refusal.row(), 4);
 //! # Ok::<(), Refusal>(())
 //! ```
 //!
-//! `examples/vault.rs` shows more of it. The library is looked for in
+//! `examples/unlock.rs` goes from these two files to an open file, and
+//! `examples/vault.rs` shows more of the calls. The library is looked for in
 //! `target/staticlib` of the repository, where `rt staticlib skrapnefja`
 //! writes it, or in the folder that the environment variable
 //! `SKRAPNEFJA_LIB_DIR` names at build time.
@@ -48,6 +51,7 @@ pub mod ffi;
 mod file;
 mod header;
 mod keys;
+mod label;
 mod lengths;
 mod names;
 mod refusal;
@@ -57,6 +61,7 @@ pub use chunk::CHUNK_LEN;
 pub use combo::Combo;
 pub use header::OpenedHeader;
 pub use keys::{unwrap_key, wrap_key, KEY_LEN, WRAPPED_KEY_LEN};
+pub use label::{Label, MAX_LABEL_LEN, MAX_THRESHOLD, MIN_THRESHOLD, RAW_KEY_LEN};
 pub use lengths::MAX_CLEARTEXT_LEN;
 pub use names::{WrittenName, MAX_FULL_LEN, MAX_NAME_LEN, MAX_STORED_LEN, PATH_LEN};
 pub use refusal::Refusal;

@@ -7,7 +7,7 @@ use crate::{Refusal, Vault};
 /// The longest name, in bytes.
 pub const MAX_NAME_LEN: usize = 1020;
 
-/// The longest stored name.
+/// The longest stored name, under any threshold.
 pub const MAX_STORED_LEN: usize = 220;
 
 /// The longest full name.
@@ -21,7 +21,7 @@ pub const PATH_LEN: usize = 36;
 pub enum WrittenName {
     /// The full name itself is stored, with this length.
     Plain(usize),
-    /// The name was too long: what is stored is the hash of the full name.
+    /// The full name is longer than the threshold: its hash name is stored.
     Shortened {
         /// The length of the stored name.
         stored: usize,

@@ -8,8 +8,8 @@ use std::fmt::{self, Display, Formatter};
 /// changed no buffer.
 #[derive(Clone, Copy, Debug, PartialEq, Eq, Hash)]
 pub enum Refusal {
-    /// Row 1: a key is not 32 bytes, a nonce is not 12 in SIV_GCM or 16 in
-    /// SIV_CTRMAC, or there is not one nonce for each chunk.
+    /// Row 1: a key is not 32 bytes, a raw key is not 64, a nonce is not 12 in
+    /// SIV_GCM or 16 in SIV_CTRMAC, or there is not one nonce for each chunk.
     KeyOrNonceSize,
     /// Row 2: the directory ID has more than 36 bytes, or one of 128 or more.
     DirectoryId,
@@ -24,8 +24,8 @@ pub enum Refusal {
     /// form not 29 to 32,796 in SIV_GCM or 49 to 32,816 in SIV_CTRMAC; a wrapped
     /// key is not 40.
     Length,
-    /// Row 5: the text of the (full) name is broken, or over 220 characters
-    /// where the name is stored as it is.
+    /// Row 5: the text of the (full) name is broken, or has more characters
+    /// than the threshold where the name is stored as it is.
     Text,
     /// Row 6: the range ends behind the cleartext.
     Range,
@@ -38,21 +38,35 @@ pub enum Refusal {
     /// Row 10: the tag or MAC of this chunk is wrong, and it is the lowest such
     /// number of the chunks that the call needs.
     Chunk(u64),
-    /// Row 11: the full name has 220 characters or fewer, or the stored name
-    /// isn't its hash name.
+    /// Row 11: the full name has no more characters than the threshold, or the
+    /// stored name isn't its hash name.
     HashName,
     /// Row 12: the synthetic IV doesn't match.
     SyntheticIv,
-    /// Row 17: the combo is neither SIV_GCM nor SIV_CTRMAC. No function of this
-    /// crate gives it, since a [`Combo`](crate::Combo) is one of the two.
+    /// Row 13: the label has more than 4,096 bytes or is malformed: it is not
+    /// three segments of unpadded base64url with zero spare bits; its header or
+    /// payload is not a JSON object, or has values nested deeper than eight; or
+    /// `alg`, `format`, `cipherCombo` or `shorteningThreshold` is missing, given
+    /// twice or of the wrong kind.
+    Label,
+    /// Row 14: the label's `alg` isn't HS256.
+    Alg,
+    /// Row 15: the label's signature is wrong, as another raw key or damage can
+    /// cause.
+    Signature,
+    /// Row 16: the label's `format` isn't 8.
+    Format,
+    /// Row 17: the label's `cipherCombo` is neither SIV_GCM nor SIV_CTRMAC.
     Combo,
+    /// Row 18: the threshold is not 36 to 220.
+    Threshold,
     /// Row 20: the check value of a wrapped key is wrong, as another
     /// key-encryption key (a mistyped password) or damage can cause.
     CheckValue,
 }
 
 impl Refusal {
-    /// The row of the table of refusals: 1 to 12, 17 or 20.
+    /// The row of the table of refusals: 1 to 18, or 20.
     pub fn row(self) -> u32 {
         match self {
             Refusal::KeyOrNonceSize => 1,
@@ -67,7 +81,12 @@ impl Refusal {
             Refusal::Chunk(_) => 10,
             Refusal::HashName => 11,
             Refusal::SyntheticIv => 12,
+            Refusal::Label => 13,
+            Refusal::Alg => 14,
+            Refusal::Signature => 15,
+            Refusal::Format => 16,
             Refusal::Combo => 17,
+            Refusal::Threshold => 18,
             Refusal::CheckValue => 20,
         }
     }
@@ -87,7 +106,12 @@ impl Refusal {
             10 => Refusal::Chunk(at),
             11 => Refusal::HashName,
             12 => Refusal::SyntheticIv,
+            13 => Refusal::Label,
+            14 => Refusal::Alg,
+            15 => Refusal::Signature,
+            16 => Refusal::Format,
             17 => Refusal::Combo,
+            18 => Refusal::Threshold,
             20 => Refusal::CheckValue,
             _ => unreachable!("the library has no row {row}"),
         }
@@ -109,7 +133,12 @@ impl Display for Refusal {
             Refusal::Chunk(number) => return write!(f, "chunk {number} is not genuine"),
             Refusal::HashName => "the full name does not belong to the stored name",
             Refusal::SyntheticIv => "the name is not genuine",
+            Refusal::Label => "not a vault's label",
+            Refusal::Alg => "the label's algorithm is not HS256",
+            Refusal::Signature => "the label is not genuine",
+            Refusal::Format => "the vault's format is not 8",
             Refusal::Combo => "the combo is neither SIV_GCM nor SIV_CTRMAC",
+            Refusal::Threshold => "the threshold is not 36 to 220",
             Refusal::CheckValue => "the wrapped key is not genuine",
         })
     }
@@ -121,7 +150,9 @@ impl Error for Refusal {}
 mod tests {
     use super::*;
 
-    const ROWS: [u32; 14] = [1, 2, 3, 4, 5, 6, 7, 8, 9, 10, 11, 12, 17, 20];
+    const ROWS: [u32; 19] = [
+        1, 2, 3, 4, 5, 6, 7, 8, 9, 10, 11, 12, 13, 14, 15, 16, 17, 18, 20,
+    ];
 
     #[test]
     fn rows() {

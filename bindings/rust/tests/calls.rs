@@ -31,8 +31,13 @@ fn done(len: usize, call: impl FnOnce(&mut [u8]) -> Result<usize, Refusal>) -> V
     out
 }
 
+/// The vault with the greatest threshold, 220.
 fn vault(combo: Combo) -> Vault {
-    Vault::new(&ENC, &MAC, combo).expect("two keys")
+    with_threshold(combo, MAX_THRESHOLD)
+}
+
+fn with_threshold(combo: Combo, threshold: u32) -> Vault {
+    Vault::new(&ENC, &MAC, Label { combo, threshold }).expect("two keys, and a threshold")
 }
 
 fn nonce(vault: &Vault) -> Vec<u8> {
@@ -82,13 +87,22 @@ fn vaults() {
         assert_eq!(vault.combo(), combo);
         assert_eq!(
             format!("{vault:?}"),
-            format!("Vault {{ combo: {combo:?}, .. }}")
+            format!("Vault {{ label: Label {{ combo: {combo:?}, threshold: 220 }}, .. }}")
         );
 
-        let new = |enc: &[u8], mac: &[u8]| Vault::new(enc, mac, combo).expect_err("a size");
-        assert_eq!(new(&ENC[1..], &MAC), Refusal::KeyOrNonceSize);
-        assert_eq!(new(&ENC, &MAC[1..]), Refusal::KeyOrNonceSize);
-        assert_eq!(new(&[1; 33], &[]), Refusal::KeyOrNonceSize);
+        let new = |enc: &[u8], mac: &[u8], threshold| {
+            Vault::new(enc, mac, Label { combo, threshold }).expect_err("a size")
+        };
+        assert_eq!(new(&ENC[1..], &MAC, 220), Refusal::KeyOrNonceSize);
+        assert_eq!(new(&ENC, &MAC[1..], 220), Refusal::KeyOrNonceSize);
+        assert_eq!(new(&[1; 33], &[], 0), Refusal::KeyOrNonceSize);
+        for threshold in [0, 35, 221, 256 + 220, u32::MAX] {
+            assert_eq!(new(&ENC, &MAC, threshold), Refusal::Threshold);
+        }
+        for threshold in MIN_THRESHOLD..=MAX_THRESHOLD {
+            let label = with_threshold(combo, threshold).label();
+            assert_eq!(label, Label { combo, threshold });
+        }
     }
 }
 
@@ -172,7 +186,8 @@ fn reserved_bytes() {
         .into_iter()
         .zip([&RESERVED_GCM[..], &RESERVED_CTRMAC])
     {
-        let vault = Vault::new(&enc, &mac, combo).expect("two keys");
+        let threshold = MAX_THRESHOLD;
+        let vault = Vault::new(&enc, &mac, Label { combo, threshold }).expect("two keys");
         let mut key = [OLD; 32];
         let opened = vault.open_header(header, &mut key).expect("a right tag");
         assert_eq!(opened.length, 32);
@@ -366,6 +381,34 @@ fn shortened_names() {
     }
 }
 
+/// The full name of 9 bytes has 40 characters: it is stored as it is from the
+/// threshold 40 on, and below that it is shortened.
+#[test]
+fn thresholds() {
+    let name = b"train.log";
+    for combo in COMBOS {
+        let (full, none) = written(&vault(combo), name);
+        assert_eq!((full.len(), none.len()), (40, 0));
+        let (hash, same) = written(&with_threshold(combo, MIN_THRESHOLD), name);
+        assert_eq!((hash.len(), &same), (32, &full));
+
+        for threshold in MIN_THRESHOLD..=MAX_THRESHOLD {
+            let vault = with_threshold(combo, threshold);
+            let open = |out: &mut [u8]| vault.open_name(ID, &full, out);
+            let open_long = |out: &mut [u8]| vault.open_long_name(ID, &hash, &full, out);
+            if threshold < 40 {
+                assert_eq!(written(&vault, name), (hash.clone(), full.clone()));
+                assert_eq!(refused(9, open), Refusal::Text);
+                assert_eq!(done(9, open_long), name);
+            } else {
+                assert_eq!(written(&vault, name), (full.clone(), vec![]));
+                assert_eq!(done(9, open), name);
+                assert_eq!(refused(9, open_long), Refusal::HashName);
+            }
+        }
+    }
+}
+
 /// The full names of the bytes `log\xff` and of 147 bytes FF, and the hash name
 /// of the second, as another program could store them.
 const STRAY: &[u8] = b"l9FzfPEc4alEQu_U5mc5EH00yhk=.c9r";
@@ -429,7 +472,9 @@ fn longest_names() {
 #[test]
 fn paths() {
     for combo in COMBOS {
-        let vault = Vault::new(&[0x55; 32], &[0x77; 32], combo).expect("two keys");
+        let threshold = MIN_THRESHOLD;
+        let vault = Vault::new(&[0x55; 32], &[0x77; 32], Label { combo, threshold });
+        let vault = vault.expect("two keys");
         let path = done(36, |out| vault.dir_path(b"", out));
         assert_eq!(path, b"/d/VL/WEHT553J5DR7OZLRJAYDIWFCXZABOD");
 

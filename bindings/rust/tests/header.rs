@@ -17,7 +17,7 @@ type Functions = BTreeMap<String, Vec<String>>;
 #[test]
 fn same_functions() {
     let (c, rust) = (c_functions(), rust_functions());
-    assert_eq!(c.len(), 16);
+    assert_eq!(c.len(), 17);
     assert_eq!(rust, c);
     assert_eq!(exported_functions(), c);
 }
@@ -25,11 +25,13 @@ fn same_functions() {
 #[test]
 fn same_sizes() {
     let c = c_sizes();
-    assert_eq!(c.len(), 16);
+    assert_eq!(c.len(), 20);
     let (gcm, ctrmac) = (Combo::SivGcm, Combo::SivCtrmac);
     for (name, size) in [
         ("KEY_SIZE", KEY_LEN),
         ("WRAPPED_KEY_SIZE", WRAPPED_KEY_LEN),
+        ("RAW_KEY_SIZE", RAW_KEY_LEN),
+        ("LABEL_MAX", MAX_LABEL_LEN),
         ("VAULT_SIZE", VAULT_LEN),
         ("SIV_GCM_NONCE_SIZE", gcm.nonce_len()),
         ("SIV_GCM_HEADER_SIZE", gcm.header_len()),
@@ -42,6 +44,8 @@ fn same_sizes() {
         ("CLEARTEXT_MAX", MAX_CLEARTEXT_LEN),
         ("PATH_SIZE", PATH_LEN),
         ("NAME_MAX", MAX_NAME_LEN),
+        ("THRESHOLD_MIN", MIN_THRESHOLD as usize),
+        ("THRESHOLD_MAX", MAX_THRESHOLD as usize),
         ("STORED_NAME_MAX", MAX_STORED_LEN),
         ("FULL_NAME_MAX", MAX_FULL_LEN),
     ] {
@@ -75,7 +79,12 @@ fn same_rows() {
         ("CHUNK", Refusal::Chunk(7)),
         ("HASH_NAME", Refusal::HashName),
         ("SYNTHETIC_IV", Refusal::SyntheticIv),
+        ("LABEL", Refusal::Label),
+        ("ALG", Refusal::Alg),
+        ("SIGNATURE", Refusal::Signature),
+        ("FORMAT", Refusal::Format),
         ("COMBO", Refusal::Combo),
+        ("THRESHOLD", Refusal::Threshold),
         ("CHECK_VALUE", Refusal::CheckValue),
     ];
     let rows = refusals.map(|(name, refusal)| (name, refusal.row()));
@@ -138,6 +147,7 @@ fn c_parameter(text: &str) -> String {
         "const uint8_t *" => "*const u8",
         "uint8_t *" => "*mut u8",
         "uint64_t *" => "*mut u64",
+        "uint32_t *" => "*mut u32",
         "uint64_t" => "u64",
         "uint32_t" => "u32",
         "size_t" => "usize",
@@ -191,6 +201,7 @@ fn exported_parameter(text: &str) -> Vec<String> {
         "&[u8]" => vec![format!("{name}: *const u8"), format!("{name}_len: usize")],
         "&mut [u8]" => vec![format!("{name}: *mut u8"), format!("{name}_len: usize")],
         "&mut u64" => vec![format!("{name}: *mut u64")],
+        "&mut u32" => vec![format!("{name}: *mut u32")],
         "u64" | "u32" => vec![format!("{name}: {kind}")],
         kind => panic!("another type: {kind}"),
     }

@@ -5,7 +5,7 @@ use mathlib.Core.List.{List, [], _∷_}
 use lib.ListN.{replicate}
 use Rattle.octets.specs.Rows.{Outcome, done, refused, refusedAt}
 use Rattle.answer.specs.declared.Refusal.{Refusal}
-use Rattle.answer.specs.declared.Refusal.the-variants.{KeyOrNonceSize, DirectoryId, Name, Length, Text, Range, Room, RepeatedNonce, Header, Chunk, HashName, SyntheticIv, Combo, CheckValue}
+use Rattle.answer.specs.declared.Refusal.the-variants.{KeyOrNonceSize, DirectoryId, Name, Length, Text, Range, Room, RepeatedNonce, Header, Chunk, HashName, SyntheticIv, Label, Alg, Signature, Format, Combo, Threshold, CheckValue}
 use Rattle.answer.specs.declared.Answer.{Answer}
 use Rattle.answer.specs.declared.Answer.the-variants.{Done, Refused}
 use Rattle.answer.specs.declared.HeaderAnswer.{HeaderAnswer}
@@ -25,7 +25,12 @@ row Header = refused 9
 row (Chunk i) = refusedAt 10 i
 row HashName = refused 11
 row SyntheticIv = refused 12
+row Label = refused 13
+row Alg = refused 14
+row Signature = refused 15
+row Format = refused 16
 row Combo = refused 17
+row Threshold = refused 18
 row CheckValue = refused 20
 
 abbrev pub meaning : Answer → Outcome

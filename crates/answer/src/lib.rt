@@ -3,7 +3,7 @@ ghost use mathlib.Core.Path.{_≡_};
 ghost use Rattle.octets.specs.Rows.{number};
 ghost use Rattle.answer.specs.Meaning.{row};
 
-/// Why a call was refused, by rows 1 to 12, 17 and 20. `Chunk` has the number of the chunk.
+/// Why a call was refused, by rows 1 to 18 and 20. `Chunk` has the number of the chunk.
 pub enum Refusal {
     KeyOrNonceSize,
     DirectoryId,
@@ -17,7 +17,12 @@ pub enum Refusal {
     Chunk(u64),
     HashName,
     SyntheticIv,
+    Label,
+    Alg,
+    Signature,
+    Format,
     Combo,
+    Threshold,
     CheckValue,
 }
 
@@ -58,7 +63,12 @@ pub fn row_number(refusal: Refusal) -> u32
         Refusal::Chunk(_) => 10,
         Refusal::HashName => 11,
         Refusal::SyntheticIv => 12,
+        Refusal::Label => 13,
+        Refusal::Alg => 14,
+        Refusal::Signature => 15,
+        Refusal::Format => 16,
         Refusal::Combo => 17,
+        Refusal::Threshold => 18,
         Refusal::CheckValue => 20,
     }
 }

@@ -58,6 +58,6 @@ TellsOpening =
 -- The line begins with 'o' exactly when the file is that of some choice; and then it gives the length and the chunks of that choice's cleartext.
 abbrev pub OpenedExactly : Type 0
 OpenedExactly =
-    (enc mac file : List ℕ) → Keys (vaultWith enc mac SivGcm) → Bytes file → 64 + length file ≤ 65536
+    (enc mac file : List ℕ) → Keys (vaultWith enc mac SivGcm 220) → Bytes file → 64 + length file ≤ 65536
     → ((getD (checkLine (enc ++ mac ++ file)) 0 0 ≡ 111) ↔ ((c : Choice) × Fits sivGcm c × (fileOf (codec enc mac) c ≡ file)))
     × ((c : Choice) → Fits sivGcm c → fileOf (codec enc mac) c ≡ file → checkLine (enc ++ mac ++ file) ≡ openedLine (length (c .clear)) (chunks (length (c .clear))))

@@ -15,6 +15,9 @@ ghost use Rattle.octets.specs.Rows.{ended};
 ghost use Rattle.answer.specs.Meaning.{meaning};
 ghost use Rattle.check_line.specs.Check.{checkVault, longest, checked, check};
 
+// The threshold of the record, which the opening of a file does not look at.
+const THRESHOLD: u32 = 220;
+
 // Opens the file behind its keys, in SIV_GCM, into room.
 fn check_vault(input: &[u8], room: &mut [u8]) -> Answer
     ensures { λ r. ⌜ ended (meaning r) (now (room .exit)) ≡ checkVault (now (input .entry)) (now (room .entry)) ⌝ }
@@ -28,7 +31,7 @@ fn check_vault(input: &[u8], room: &mut [u8]) -> Answer
     let enc = &input[..32];
     let mac = &input[32..64];
     let file = &input[64..];
-    let made = make_vault(enc, mac, Combo::SivGcm);
+    let made = make_vault(enc, mac, Combo::SivGcm, THRESHOLD);
     let v = made.vault;
     open_file(v, file, room)
 }

@@ -23,6 +23,7 @@ use Rattle.encoding.specs.Base32 as base32
 use Rattle.encoding.specs.Base64url as base64url
 use Rattle.utf8.specs.Utf8.{utf8-1, utf8-2, utf8-3, utf8-4, wellFormed}
 use Rattle.utf8.specs.ProperText.{lacks, properText}
+use Rattle.threshold.specs.Threshold.{thresholdRight}
 use Rattle.frame.specs.Frame.{masterKeysRight}
 use Rattle.name_spec.specs.Names.{ascii, idRight, sealedId, idHash, path, sealedName, fullName, hashName, sealedOf, nameLength, textRight, nameOf, nameGood}
 use Rattle.name_spec.specs.Calls.{openTextRows, openNameRows, openName}
@@ -53,9 +54,9 @@ unfolding f.xtimes f.mulBits f.mul sbox words wordBytes subWord rotWord powerOfX
 distinct-root-name = refl
 
 pub distinct-name-opens : DistinctNameOpens
-unfolding f.xtimes f.mulBits f.mul sbox words wordBytes subWord rotWord powerOfX rcon temp expansion keyExpansion xors subBytes shiftRows mixColumns addRoundKey afterRounds cipher aes intFrom int be inc128 keystream ctr dbl pad subkey1 subkey2 chain lastBlock cmacFrom cmac xorend s2vLast s2vFrom s2v counterOf crypt plain good same base64url.octets base64url.canonical base64url.alphabet base64url.place base64url.value base64url.known base64url.padLength base64url.body base64url.whole base64url.accepted base64url.decoded ascii idRight sealedOf nameLength textRight nameOf nameGood utf8-1 utf8-2 utf8-3 utf8-4 wellFormed lacks properText masterKeysRight answer openTextRows openNameRows openName
+unfolding f.xtimes f.mulBits f.mul sbox words wordBytes subWord rotWord powerOfX rcon temp expansion keyExpansion xors subBytes shiftRows mixColumns addRoundKey afterRounds cipher aes intFrom int be inc128 keystream ctr dbl pad subkey1 subkey2 chain lastBlock cmacFrom cmac xorend s2vLast s2vFrom s2v counterOf crypt plain good same base64url.octets base64url.canonical base64url.alphabet base64url.place base64url.value base64url.known base64url.padLength base64url.body base64url.whole base64url.accepted base64url.decoded ascii idRight sealedOf nameLength textRight nameOf nameGood utf8-1 utf8-2 utf8-3 utf8-4 wellFormed lacks properText thresholdRight masterKeysRight answer openTextRows openNameRows openName
 distinct-name-opens = refl
 
 pub stray-byte-refused : StrayByteRefused
-unfolding f.xtimes f.mulBits f.mul sbox words wordBytes subWord rotWord powerOfX rcon temp expansion keyExpansion xors subBytes shiftRows mixColumns addRoundKey afterRounds cipher aes intFrom int be inc128 keystream ctr dbl pad subkey1 subkey2 chain lastBlock cmacFrom cmac xorend s2vLast s2vFrom s2v counterOf crypt plain good same base64url.octets base64url.canonical base64url.alphabet base64url.place base64url.value base64url.known base64url.padLength base64url.body base64url.whole base64url.accepted base64url.decoded ascii idRight sealedOf nameLength textRight nameOf nameGood utf8-1 utf8-2 utf8-3 utf8-4 wellFormed lacks properText masterKeysRight answer openTextRows openNameRows openName
+unfolding f.xtimes f.mulBits f.mul sbox words wordBytes subWord rotWord powerOfX rcon temp expansion keyExpansion xors subBytes shiftRows mixColumns addRoundKey afterRounds cipher aes intFrom int be inc128 keystream ctr dbl pad subkey1 subkey2 chain lastBlock cmacFrom cmac xorend s2vLast s2vFrom s2v counterOf crypt plain good same base64url.octets base64url.canonical base64url.alphabet base64url.place base64url.value base64url.known base64url.padLength base64url.body base64url.whole base64url.accepted base64url.decoded ascii idRight sealedOf nameLength textRight nameOf nameGood utf8-1 utf8-2 utf8-3 utf8-4 wellFormed lacks properText thresholdRight masterKeysRight answer openTextRows openNameRows openName
 stray-byte-refused = refl

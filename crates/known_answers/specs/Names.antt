@@ -58,9 +58,9 @@ DistinctRootName =
 -- "fMjq2pEfRCrhWGoAPKM2Lt2tuX-m_oRUzvmd9k9G.c9r" opens in that directory to 14 bytes, the name "Lokf", U+00FC, "hrer.txt".
 abbrev pub DistinctNameOpens : Type 0
 DistinctNameOpens =
-    openName enc mac directory (be 44 0x664d6a71327045665243726857476f41504b4d324c74327475582d6d5f6f52557a766d64396b39472e633972) (replicate 14 0xa5) ≡ ended (done (14 ∷ [])) (be 14 0x4c6f6b66c3bc687265722e747874)
+    openName 220 enc mac directory (be 44 0x664d6a71327045665243726857476f41504b4d324c74327475582d6d5f6f52557a766d64396b39472e633972) (replicate 14 0xa5) ≡ ended (done (14 ∷ [])) (be 14 0x4c6f6b66c3bc687265722e747874)
 
 -- "nROasKaMJc1NJhZ6UzFxMmnAFDg=.c9r" is the full name there of the bytes 6C 6F 67 FF, which are not UTF-8: row 3, and the buffer stays.
 abbrev pub StrayByteRefused : Type 0
 StrayByteRefused =
-    openName enc mac directory (be 32 0x6e524f61734b614d4a63314e4a685a36557a46784d6d6e414644673d2e633972) (replicate 4 0xa5) ≡ ended (refused 3) (replicate 4 0xa5)
+    openName 220 enc mac directory (be 32 0x6e524f61734b614d4a63314e4a685a36557a46784d6d6e414644673d2e633972) (replicate 4 0xa5) ≡ ended (refused 3) (replicate 4 0xa5)

@@ -12,7 +12,8 @@ use Rattle.octets.specs.Bytes.{filled, same}
 use Rattle.octets.specs.Rows.{Outcome, done, Row, answer, First, NoRow, outcomeAt, numbered, End, ended, ending, EndsExactly, Rule, Exactly}
 use Rattle.octets.proofs.Rows.{ends-exactly, Matches, ends-by}
 use Rattle.frame.specs.Frame.{masterKeysRight}
-use Rattle.name_spec.specs.Names.{threshold, idRight, path, fullName, fullLength, hashName, short, storedName, textRight, nameLength, nameOf}
+use Rattle.threshold.specs.Threshold.{thresholdRight}
+use Rattle.name_spec.specs.Names.{idRight, path, fullName, fullLength, hashName, short, storedName, textRight, nameLength, nameOf}
 use Rattle.name_spec.specs.Calls.{pathLength, hashLength, storedLength, writtenLengths, NameEnd, nameEnded, nameEnding, dirPathRows, dirPath, writeNameRows, writeName, openTextRows, openText, openNameRows, openName, openLongNameRows, openLongName}
 use Rattle.name_spec.specs.Statements.{NameEndsBy}
 use Rattle.name_spec.proofs.Texts.{length-full}
@@ -57,63 +58,66 @@ module _ (rows : List Row) (n : numbered rows ≡ true) (l newStored newFull sto
 -- ---- the four calls
 
 -- For code: the end of each call by its rows.
-pub name-ends : (enc mac id : List ℕ)
-    → ((out : List ℕ) → EndsExactly (dirPathRows enc mac id (length out)) (pathLength ∷ []) (filled (path enc mac id) pathLength out) out (dirPath enc mac id out))
-    × ((name stored full : List ℕ) →
+pub path-ends : (enc mac id out : List ℕ) → EndsExactly (dirPathRows enc mac id (length out)) (pathLength ∷ []) (filled (path enc mac id) pathLength out) out (dirPath enc mac id out)
+unfolding dirPathRows dirPath
+path-ends enc mac id out = ends-exactly (dirPathRows enc mac id (length out)) refl (pathLength ∷ []) (filled (path enc mac id) pathLength out) out
+
+pub name-ends : (threshold : ℕ) (enc mac id : List ℕ)
+    → ((name stored full : List ℕ) →
     let f = fullName enc mac id name in
     let n = fullLength (length name) in
-    NameEndsExactly (writeNameRows enc mac id name (length stored) (length full)) (writtenLengths n)
-    (filled (storedName f) (storedLength n) stored) (cond (short n) full (filled f n full)) stored full (writeName enc mac id name stored full))
-    × ((t out : List ℕ) → EndsExactly (openNameRows enc mac id t (length out)) (nameLength t ∷ []) (filled (nameOf enc t) (nameLength t) out) out (openName enc mac id t out))
+    NameEndsExactly (writeNameRows threshold enc mac id name (length stored) (length full)) (writtenLengths threshold n)
+    (filled (storedName threshold f) (storedLength threshold n) stored) (cond (short threshold n) full (filled f n full)) stored full (writeName threshold enc mac id name stored full))
+    × ((t out : List ℕ)
+    → EndsExactly (openNameRows threshold enc mac id t (length out)) (nameLength t ∷ []) (filled (nameOf enc t) (nameLength t) out) out (openName threshold enc mac id t out))
     × ((s t out : List ℕ)
-    → EndsExactly (openLongNameRows enc mac id s t (length out)) (nameLength t ∷ []) (filled (nameOf enc t) (nameLength t) out) out (openLongName enc mac id s t out))
-unfolding dirPathRows dirPath writeNameRows writeName openTextRows openNameRows openName openLongNameRows openLongName
-name-ends enc mac id = (
-  λ out. ends-exactly (dirPathRows enc mac id (length out)) refl (pathLength ∷ []) (filled (path enc mac id) pathLength out) out,
+    → EndsExactly (openLongNameRows threshold enc mac id s t (length out)) (nameLength t ∷ []) (filled (nameOf enc t) (nameLength t) out) out (openLongName threshold enc mac id s t out))
+unfolding writeNameRows writeName openTextRows openNameRows openName openLongNameRows openLongName
+name-ends threshold enc mac id = (
   λ name stored full.
       let f = fullName enc mac id name in
       let n = fullLength (length name) in
-      name-ends-exactly (writeNameRows enc mac id name (length stored) (length full)) refl (writtenLengths n) (filled (storedName f) (storedLength n) stored) (cond (short n) full (filled f n full)) stored full,
-  λ t out. ends-exactly (openNameRows enc mac id t (length out)) refl (nameLength t ∷ []) (filled (nameOf enc t) (nameLength t) out) out,
-  λ s t out. ends-exactly (openLongNameRows enc mac id s t (length out)) refl (nameLength t ∷ []) (filled (nameOf enc t) (nameLength t) out) out,
+      name-ends-exactly (writeNameRows threshold enc mac id name (length stored) (length full)) refl (writtenLengths threshold n) (filled (storedName threshold f) (storedLength threshold n) stored) (cond (short threshold n) full (filled f n full)) stored full,
+  λ t out. ends-exactly (openNameRows threshold enc mac id t (length out)) refl (nameLength t ∷ []) (filled (nameOf enc t) (nameLength t) out) out,
+  λ s t out. ends-exactly (openLongNameRows threshold enc mac id s t (length out)) refl (nameLength t ∷ []) (filled (nameOf enc t) (nameLength t) out) out,
 )
 
 -- ---- the last rows of both openers
 
-module _ (enc mac id : List ℕ) where
-  -- For code: their end by the rows.
-  pub text-ends : (t out : List ℕ) → EndsExactly (openTextRows enc mac id t) (nameLength t ∷ []) (filled (nameOf enc t) (nameLength t) out) out (openText enc mac id t out)
-  unfolding openTextRows openText
-  text-ends t out = ends-exactly (openTextRows enc mac id t) refl (nameLength t ∷ []) (filled (nameOf enc t) (nameLength t) out) out
+-- For code: their end by the rows.
+pub text-ends : (enc mac id t out : List ℕ) → EndsExactly (openTextRows enc mac id t) (nameLength t ∷ []) (filled (nameOf enc t) (nameLength t) out) out (openText enc mac id t out)
+unfolding openTextRows openText
+text-ends enc mac id t out = ends-exactly (openTextRows enc mac id t) refl (nameLength t ∷ []) (filled (nameOf enc t) (nameLength t) out) out
 
-  -- Where no row before them applies, an opener ends by them.
-  module _ (keyed : masterKeysRight enc mac ≡ true) (placed : idRight id ≡ true) where
-    pub plain-by-text : (t out : List ℕ) → (not (textRight t) || not (short (length t))) ≡ false → ltb (length out) (nameLength t) ≡ false → openName enc mac id t out ≡ openText enc mac id t out
-    unfolding openName openNameRows openText answer
-    plain-by-text t out text roomy = rw (keyed, placed, text, roomy)
+-- Where no row before them applies, an opener ends by them.
+module _ (threshold : ℕ) (enc mac id : List ℕ) (limits : thresholdRight threshold ≡ true) (keyed : masterKeysRight enc mac ≡ true) (placed : idRight id ≡ true) where
+  pub plain-by-text : (t out : List ℕ) → (not (textRight t) || not (short threshold (length t))) ≡ false → ltb (length out) (nameLength t) ≡ false
+      → openName threshold enc mac id t out ≡ openText enc mac id t out
+  unfolding openName openNameRows openText answer
+  plain-by-text t out text roomy = rw (limits, keyed, placed, text, roomy)
 
-    pub long-by-text : (s t out : List ℕ) → textRight t ≡ true → ltb (length out) (nameLength t) ≡ false → (short (length t) || not (same s (hashName t))) ≡ false
-        → openLongName enc mac id s t out ≡ openText enc mac id t out
-    unfolding openLongName openLongNameRows openText answer
-    long-by-text s t out right roomy pair = rw (keyed, placed, right, roomy, pair)
+  pub long-by-text : (s t out : List ℕ) → textRight t ≡ true → ltb (length out) (nameLength t) ≡ false → (short threshold (length t) || not (same s (hashName t))) ≡ false
+      → openLongName threshold enc mac id s t out ≡ openText enc mac id t out
+  unfolding openLongName openLongNameRows openText answer
+  long-by-text s t out right roomy pair = rw (limits, keyed, placed, right, roomy, pair)
 
 -- ---- what is written where no row applies
 
-module _ (enc mac id name stored full : List ℕ) where
+module _ (threshold : ℕ) (enc mac id name stored full : List ℕ) where
   -- The name writer then ends in e.
   abbrev pub Written : NameEnd → Type 0
   Written e =
       let f = fullName enc mac id name in
       let n = fullLength (length name) in
-      nameEnded (done (writtenLengths n)) (filled (storedName f) (storedLength n) stored) (cond (short n) full (filled f n full)) ≡ e
+      nameEnded (done (writtenLengths threshold n)) (filled (storedName threshold f) (storedLength threshold n) stored) (cond (short threshold n) full (filled f n full)) ≡ e
 
   -- A full name that is stored as it is, of n characters.
   pub plain-written : (n : ℕ) → n ≡ fullLength (length name) → n ≤ threshold → Written (nameEnded (done (n ∷ [])) (filled (fullName enc mac id name) n stored) full)
   unfolding storedName
-  plain-written n e h = rw (length-full enc mac id name, ← e, le-leb n threshold h)
+  plain-written n e h = let s : short threshold n ≡ true = le-leb n threshold h in rw (length-full enc mac id name, ← e, s)
 
   -- A shortened one.
   pub long-written : (n : ℕ) → n ≡ fullLength (length name) → threshold < n
       → Written (nameEnded (done (hashLength ∷ n ∷ [])) (filled (hashName (fullName enc mac id name)) hashLength stored) (filled (fullName enc mac id name) n full))
   unfolding storedName
-  long-written n e h = rw (length-full enc mac id name, ← e, lt-leb n threshold h)
+  long-written n e h = let s : short threshold n ≡ false = lt-leb n threshold h in rw (length-full enc mac id name, ← e, s)

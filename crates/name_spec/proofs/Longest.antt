@@ -70,23 +70,24 @@ longest-names = (
 
 -- ---- room
 
-module _ (enc mac id : List ℕ) where
-  pub room-for-any : RoomForAny enc mac id
+module _ (threshold : ℕ) (enc mac id : List ℕ) where
+  pub room-for-any : RoomForAny threshold enc mac id
   unfolding writeNameRows writeName openTextRows openNameRows openName openLongNameRows openLongName
   room-for-any = (
     λ name stored full hs hf e.
-        let m = write-matches enc mac id name (length stored) (length full) in
-        let f = answer-exactly (writeNameRows enc mac id name (length stored) (length full)) refl (writtenLengths (fullLength (length name))) .0 3 (lit≤ tt) .0 e in
-        let h = full-limit name (m .2 .2 .1 .0 (f .1 .1 .0) .0) in
-        true-false (sym (f .1 .1 .1) ∙ m .2 .2 .2 .1 .1 (λ p. omega (arith, p, hs), λ p. (omega (arith, hs), omega (arith, h, hf)))),
+        let m = write-matches threshold enc mac id name (length stored) (length full) in
+        let f = answer-exactly (writeNameRows threshold enc mac id name (length stored) (length full)) refl (writtenLengths threshold (fullLength (length name))) .0 4 (lit≤ tt) .0 e in
+        let most = m .1 .0 (f .0) .1 in
+        let h = full-limit name (m .2 .2 .2 .1 .0 (f .1 .1 .1 .0) .0) in
+        true-false (sym (f .1 .1 .1 .1) ∙ m .2 .2 .2 .2 .1 .1 (λ p. omega (arith, p, most, hs), λ p. (omega (arith, hs), omega (arith, h, hf)))),
     λ t out ho e.
-        let m = open-matches enc mac id t (length out) in
-        let f = answer-exactly (openNameRows enc mac id t (length out)) refl (nameLength t ∷ []) .0 3 (lit≤ tt) .0 e in
-        let h = name-limit t (m .2 .2 .1 .0 (f .1 .1 .0) .0) in
-        true-false (sym (f .1 .1 .1) ∙ m .2 .2 .2 .1 .1 (omega (arith, h, ho))),
+        let m = open-matches threshold enc mac id t (length out) in
+        let f = answer-exactly (openNameRows threshold enc mac id t (length out)) refl (nameLength t ∷ []) .0 4 (lit≤ tt) .0 e in
+        let h = name-limit t (m .2 .2 .2 .1 .0 (f .1 .1 .1 .0) .0) in
+        true-false (sym (f .1 .1 .1 .1) ∙ m .2 .2 .2 .2 .1 .1 (omega (arith, h, ho))),
     λ s t out ho e.
-        let m = open-long-matches enc mac id s t (length out) in
-        let f = answer-exactly (openLongNameRows enc mac id s t (length out)) refl (nameLength t ∷ []) .0 3 (lit≤ tt) .0 e in
-        let h = name-limit t (m .2 .2 .1 .0 (f .1 .1 .0)) in
-        true-false (sym (f .1 .1 .1) ∙ m .2 .2 .2 .1 .1 (omega (arith, h, ho))),
+        let m = open-long-matches threshold enc mac id s t (length out) in
+        let f = answer-exactly (openLongNameRows threshold enc mac id s t (length out)) refl (nameLength t ∷ []) .0 4 (lit≤ tt) .0 e in
+        let h = name-limit t (m .2 .2 .2 .1 .0 (f .1 .1 .1 .0)) in
+        true-false (sym (f .1 .1 .1 .1) ∙ m .2 .2 .2 .2 .1 .1 (omega (arith, h, ho))),
   )

@@ -1,4 +1,5 @@
--- What each call on names and directory paths ends in. enc and mac are the encryption and the MAC master key, id the directory's ID.
+-- What each call on names and directory paths ends in. enc and mac are the encryption and the MAC master key, id the directory's ID, and
+-- threshold the vault's shortening threshold, which the path does not depend on.
 -- Assumes nothing.
 use Prim.Native.Nat.{ℕ}
 use mathlib.Core.Bool.{Bool, _&&_, _||_, not, cond}
@@ -9,6 +10,7 @@ use Rattle.octets.specs.Bytes.{filled, same}
 use Rattle.octets.specs.Rows.{Outcome, done, refused, Row, answer, End, ending, leaves}
 use Rattle.frame.specs.Frame.{masterKeysRight}
 use Rattle.utf8.specs.ProperText.{properText}
+use Rattle.threshold.specs.Threshold.{thresholdRight}
 use Rattle.name_spec.specs.Names.{idRight, nameRight, path, fullName, fullLength, hashName, short, storedName, textRight, nameLength, nameOf, nameGood}
 
 -- ---- lengths of answers
@@ -21,18 +23,19 @@ pathLength = 36
 abbrev pub hashLength : ℕ
 hashLength = 32
 
--- The characters of what is stored for a full name of n characters.
-abbrev pub storedLength : ℕ → ℕ
-storedLength n = cond (short n) n hashLength
+module _ (threshold : ℕ) where
+  -- The characters of what is stored for a full name of n characters.
+  abbrev pub storedLength : ℕ → ℕ
+  storedLength n = cond (short threshold n) n hashLength
 
--- The lengths that a success returns for a full name of n characters: that one, if it is stored as it is; otherwise that of the hash
--- name, and then that of the full name.
-abbrev pub writtenLengths : ℕ → List ℕ
-writtenLengths n = cond (short n) (n ∷ []) (hashLength ∷ n ∷ [])
+  -- The lengths that a success returns for a full name of n characters: that one, if it is stored as it is; otherwise that of the hash
+  -- name, and then that of the full name.
+  abbrev pub writtenLengths : ℕ → List ℕ
+  writtenLengths n = cond (short threshold n) (n ∷ []) (hashLength ∷ n ∷ [])
 
--- Row 7 of the name writer: no room for the stored name or, if it is shortened, for the full name.
-abbrev pub lacksRoom : ℕ → ℕ → ℕ → Bool
-lacksRoom storedRoom fullRoom n = ltb storedRoom (storedLength n) || (not (short n) && ltb fullRoom n)
+  -- Row 7 of the name writer: no room for the stored name or, if it is shortened, for the full name.
+  abbrev pub lacksRoom : ℕ → ℕ → ℕ → Bool
+  lacksRoom storedRoom fullRoom n = ltb storedRoom (storedLength n) || (not (short threshold n) && ltb fullRoom n)
 
 -- ---- two buffers
 
@@ -63,23 +66,6 @@ module _ (enc mac id : List ℕ) where
   unfoldable pub dirPath : List ℕ → End
   dirPath out = ending (answer (dirPathRows (length out)) (done (pathLength ∷ []))) (filled (path enc mac id) pathLength out) out
 
-  -- writing a name: a key's size (1), the directory ID (2), a name of another size or no proper text (3), a buffer too short (7)
-  unfoldable pub writeNameRows : List ℕ → ℕ → ℕ → List Row
-  writeNameRows name storedRoom fullRoom =
-      (not (masterKeysRight enc mac), refused 1)
-      ∷ (not (idRight id), refused 2)
-      ∷ (not (nameRight name), refused 3)
-      ∷ (lacksRoom storedRoom fullRoom (fullLength (length name)), refused 7)
-      ∷ []
-
-  -- The second buffer gets the full name of a shortened name, and is left as it was by any other.
-  unfoldable pub writeName : List ℕ → List ℕ → List ℕ → NameEnd
-  writeName name stored full =
-      let f = fullName enc mac id name in
-      let n = fullLength (length name) in
-      nameEnding (answer (writeNameRows name (length stored) (length full)) (done (writtenLengths n)))
-      (filled (storedName f) (storedLength n) stored) (cond (short n) full (filled f n full)) stored full
-
   -- the last rows of both openers, for the full name t: the synthetic IV wrong (12), and only then the bytes no proper text (3)
   unfoldable pub openTextRows : List ℕ → List Row
   openTextRows t =
@@ -91,29 +77,52 @@ module _ (enc mac id : List ℕ) where
   unfoldable pub openText : List ℕ → List ℕ → End
   openText t out = ending (answer (openTextRows t) (done (nameLength t ∷ []))) (filled (nameOf enc t) (nameLength t) out) out
 
-  -- opening the text t as a name that is stored as it is: a key's size (1), the directory ID (2), the text form broken or more than 220
-  -- characters (5), the buffer too short (7), and the last rows of both openers
+module _ (threshold : ℕ) (enc mac id : List ℕ) where
+  -- the first rows of the three calls on names: the threshold outside its limits (18), a key's size (1), the directory ID (2)
+  abbrev pub nameRows : List Row → List Row
+  nameRows rows =
+      (not (thresholdRight threshold), refused 18)
+      ∷ (not (masterKeysRight enc mac), refused 1)
+      ∷ (not (idRight id), refused 2)
+      ∷ rows
+
+  -- writing a name: the first rows, a name of another size or no proper text (3), a buffer too short (7)
+  unfoldable pub writeNameRows : List ℕ → ℕ → ℕ → List Row
+  writeNameRows name storedRoom fullRoom =
+      nameRows
+      ((not (nameRight name), refused 3)
+      ∷ (lacksRoom threshold storedRoom fullRoom (fullLength (length name)), refused 7)
+      ∷ [])
+
+  -- The second buffer gets the full name of a shortened name, and is left as it was by any other.
+  unfoldable pub writeName : List ℕ → List ℕ → List ℕ → NameEnd
+  writeName name stored full =
+      let f = fullName enc mac id name in
+      let n = fullLength (length name) in
+      nameEnding (answer (writeNameRows name (length stored) (length full)) (done (writtenLengths threshold n)))
+      (filled (storedName threshold f) (storedLength threshold n) stored) (cond (short threshold n) full (filled f n full)) stored full
+
+  -- opening the text t as a name that is stored as it is: the first rows, the text form broken or more characters than the threshold (5), the
+  -- buffer too short (7), and the last rows of both openers
   unfoldable pub openNameRows : List ℕ → ℕ → List Row
   openNameRows t room =
-      (not (masterKeysRight enc mac), refused 1)
-      ∷ (not (idRight id), refused 2)
-      ∷ (not (textRight t) || not (short (length t)), refused 5)
+      nameRows
+      ((not (textRight t) || not (short threshold (length t)), refused 5)
       ∷ (ltb room (nameLength t), refused 7)
-      ∷ openTextRows t
+      ∷ openTextRows enc mac id t)
 
   unfoldable pub openName : List ℕ → List ℕ → End
   openName t out = ending (answer (openNameRows t (length out)) (done (nameLength t ∷ []))) (filled (nameOf enc t) (nameLength t) out) out
 
-  -- opening a stored name s with its full name t: a key's size (1), the directory ID (2), the full name's text form broken (5), the buffer too
-  -- short (7), the full name of 220 or fewer characters or s not its hash name (11), and the last rows of both openers
+  -- opening a stored name s with its full name t: the first rows, the full name's text form broken (5), the buffer too short (7), no more
+  -- characters of the full name than the threshold or s not its hash name (11), and the last rows of both openers
   unfoldable pub openLongNameRows : List ℕ → List ℕ → ℕ → List Row
   openLongNameRows s t room =
-      (not (masterKeysRight enc mac), refused 1)
-      ∷ (not (idRight id), refused 2)
-      ∷ (not (textRight t), refused 5)
+      nameRows
+      ((not (textRight t), refused 5)
       ∷ (ltb room (nameLength t), refused 7)
-      ∷ (short (length t) || not (same s (hashName t)), refused 11)
-      ∷ openTextRows t
+      ∷ (short threshold (length t) || not (same s (hashName t)), refused 11)
+      ∷ openTextRows enc mac id t)
 
   unfoldable pub openLongName : List ℕ → List ℕ → List ℕ → End
   openLongName s t out =

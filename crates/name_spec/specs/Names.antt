@@ -24,10 +24,6 @@ idLimit = 36
 abbrev pub nameLimit : ℕ
 nameLimit = 1020
 
--- The most characters of a full name that is stored as it is.
-abbrev pub threshold : ℕ
-threshold = 220
-
 -- The bytes that SIV adds to a cleartext.
 abbrev pub ivSize : ℕ
 ivSize = 16
@@ -97,13 +93,13 @@ fullLength n = base64url.encodedLength true (n + ivSize) + length fullEnd
 unfoldable pub hashName : List ℕ → List ℕ
 hashName full = base64url.encode true (sha1 full) ++ hashEnd
 
--- A full name of n characters is stored as it is.
-abbrev pub short : ℕ → Bool
-short n = leb n threshold
+-- A full name of n characters is stored as it is, in a vault with this threshold.
+abbrev pub short : ℕ → ℕ → Bool
+short threshold n = leb n threshold
 
 -- The stored name: a short full name itself, and the hash name of a longer one.
-unfoldable pub storedName : List ℕ → List ℕ
-storedName full = cond (short (length full)) full (hashName full)
+unfoldable pub storedName : ℕ → List ℕ → List ℕ
+storedName threshold full = cond (short threshold (length full)) full (hashName full)
 
 -- ---- the text form of a full name
 

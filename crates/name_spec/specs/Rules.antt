@@ -10,6 +10,7 @@ use Rattle.octets.specs.Bytes.{Below, Bytes}
 use Rattle.octets.specs.Rows.{refused, Rule}
 use Rattle.encoding.specs.Base64url as base64url
 use Rattle.utf8.specs.ProperText.{ProperText}
+use Rattle.threshold.specs.Threshold.{ThresholdFits}
 use Rattle.frame.specs.Rules.{KeySizes}
 use Rattle.name_spec.specs.Names.{fullEnd, fullLength, hashName, nameLength, nameOf, nameGood}
 
@@ -29,10 +30,10 @@ NameFits name = NameSize name × ProperText name
 abbrev pub TextForm : List ℕ → Type 0
 TextForm t = (s : List ℕ) × Bytes s × (17 ≤ length s) × (length s ≤ 1036) × (base64url.encode true s ++ fullEnd ≡ t)
 
--- Room for what is written of a full name of n characters: up to 220, the first buffer holds it; beyond, the first holds the 32 characters of its
--- hash name, and the second the full name.
-abbrev pub NameRoom : ℕ → ℕ → ℕ → Type 0
-NameRoom storedRoom fullRoom n = (n ≤ 220 → n ≤ storedRoom) × (220 < n → (32 ≤ storedRoom) × (n ≤ fullRoom))
+-- Room for what is written of a full name of n characters: up to the threshold, the first buffer holds it; beyond, the first holds the 32
+-- characters of its hash name, and the second the full name.
+abbrev pub NameRoom : ℕ → ℕ → ℕ → ℕ → Type 0
+NameRoom threshold storedRoom fullRoom n = (n ≤ threshold → n ≤ storedRoom) × (threshold < n → (32 ≤ storedRoom) × (n ≤ fullRoom))
 
 module _ (enc mac id : List ℕ) where
   -- the path of a directory
@@ -43,34 +44,40 @@ module _ (enc mac id : List ℕ) where
       ∷ (36 ≤ room, refused 7)
       ∷ []
 
+module _ (threshold : ℕ) (enc mac id : List ℕ) where
+  -- the first rules of the three calls on names
+  abbrev pub nameRules : List Rule → List Rule
+  nameRules rules =
+      (ThresholdFits threshold, refused 18)
+      ∷ (KeySizes enc mac, refused 1)
+      ∷ (IdFits id, refused 2)
+      ∷ rules
+
   -- writing a name
   abbrev pub writeNameRules : List ℕ → ℕ → ℕ → List Rule
   writeNameRules name storedRoom fullRoom =
-      (KeySizes enc mac, refused 1)
-      ∷ (IdFits id, refused 2)
-      ∷ (NameFits name, refused 3)
-      ∷ (NameRoom storedRoom fullRoom (fullLength (length name)), refused 7)
-      ∷ []
+      nameRules
+      ((NameFits name, refused 3)
+      ∷ (NameRoom threshold storedRoom fullRoom (fullLength (length name)), refused 7)
+      ∷ [])
 
   -- opening the text t as a name that is stored as it is
   abbrev pub openNameRules : List ℕ → ℕ → List Rule
   openNameRules t room =
-      (KeySizes enc mac, refused 1)
-      ∷ (IdFits id, refused 2)
-      ∷ (TextForm t × (length t ≤ 220), refused 5)
+      nameRules
+      ((TextForm t × (length t ≤ threshold), refused 5)
       ∷ (nameLength t ≤ room, refused 7)
       ∷ (nameGood enc mac id t ≡ true, refused 12)
       ∷ (ProperText (nameOf enc t), refused 3)
-      ∷ []
+      ∷ [])
 
   -- opening the stored name s with the full name t
   abbrev pub openLongNameRules : List ℕ → List ℕ → ℕ → List Rule
   openLongNameRules s t room =
-      (KeySizes enc mac, refused 1)
-      ∷ (IdFits id, refused 2)
-      ∷ (TextForm t, refused 5)
+      nameRules
+      ((TextForm t, refused 5)
       ∷ (nameLength t ≤ room, refused 7)
-      ∷ ((220 < length t) × (s ≡ hashName t), refused 11)
+      ∷ ((threshold < length t) × (s ≡ hashName t), refused 11)
       ∷ (nameGood enc mac id t ≡ true, refused 12)
       ∷ (ProperText (nameOf enc t), refused 3)
-      ∷ []
+      ∷ [])

@@ -13,9 +13,6 @@ pub const ID_LIMIT: usize = 36;
 // The most bytes of a name.
 pub const NAME_LIMIT: usize = 1020;
 
-// The most characters of a full name that is stored as it is.
-const THRESHOLD: usize = 220;
-
 // Is each byte below 128?
 fn ascii(s: &[u8]) -> bool
     ensures { λ r. ⌜ r ≡ spec.ascii (now (s .entry)) ⌝ }
@@ -52,10 +49,10 @@ pub fn name_right(name: &[u8]) -> bool
 }
 
 // Is a full name of n characters stored as it is?
-pub fn short(n: usize) -> bool
-    ensures { λ r. ⌜ r ≡ spec.short n ⌝ }
+pub fn short(threshold: u8, n: usize) -> bool
+    ensures { λ r. ⌜ r ≡ spec.short threshold n ⌝ }
 {
-    n <= THRESHOLD
+    n <= threshold as usize
 }
 
 // How many bytes the name in a text has, or 0 if the text's form is broken.

@@ -1,4 +1,4 @@
--- The calls on names and directory paths under the vault's record: they go by its two keys, and not by its combo.
+-- The calls on names and directory paths under the vault's record: they go by its two keys, those on names by its threshold too, and none by its combo.
 -- Assumes nothing.
 use mathlib.Core.Path.{_≡_}
 use mathlib.Core.List.{List}
@@ -14,20 +14,21 @@ module _ (v : Vault) (id : List ℕ) where
   dirPath = calls.dirPath (v .enc) (v .mac) id
 
   abbrev pub writeName : List ℕ → List ℕ → List ℕ → calls.NameEnd
-  writeName = calls.writeName (v .enc) (v .mac) id
+  writeName = calls.writeName (v .threshold) (v .enc) (v .mac) id
 
   abbrev pub openName : List ℕ → List ℕ → End
-  openName = calls.openName (v .enc) (v .mac) id
+  openName = calls.openName (v .threshold) (v .enc) (v .mac) id
 
   abbrev pub openLongName : List ℕ → List ℕ → List ℕ → End
-  openLongName = calls.openLongName (v .enc) (v .mac) id
+  openLongName = calls.openLongName (v .threshold) (v .enc) (v .mac) id
 
--- Under every combo each call ends as the definition of names has it, under the encryption master key and then the MAC master key.
+-- Under every combo each call ends as the definition of names has it, with the record's threshold, under the encryption master key and then the MAC master
+-- key; the path whatever the threshold.
 abbrev pub NamesOfAnyCombo : Type 0
 NamesOfAnyCombo =
-    (enc mac id s t out : List ℕ) (k : Combo) →
-    let v = vaultWith enc mac k in
+    (enc mac id s t out : List ℕ) (k : Combo) (threshold : ℕ) →
+    let v = vaultWith enc mac k threshold in
     (dirPath v id out ≡ calls.dirPath enc mac id out)
-    × (writeName v id s t out ≡ calls.writeName enc mac id s t out)
-    × (openName v id s out ≡ calls.openName enc mac id s out)
-    × (openLongName v id s t out ≡ calls.openLongName enc mac id s t out)
+    × (writeName v id s t out ≡ calls.writeName threshold enc mac id s t out)
+    × (openName v id s out ≡ calls.openName threshold enc mac id s out)
+    × (openLongName v id s t out ≡ calls.openLongName threshold enc mac id s t out)

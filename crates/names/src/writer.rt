@@ -7,6 +7,7 @@ use name_texts::checks::short;
 use name_texts::texts::full_length;
 use name_texts::texts::write_full;
 use name_texts::texts::write_hash;
+use threshold::threshold_right;
 use vault::record::Vault;
 ghost use mathlib.Core.Path.{_≡_};
 ghost use Rattle.answer.specs.Meaning.{nameMeaning};
@@ -14,7 +15,7 @@ ghost use Rattle.name_spec.specs.Calls.{nameEnded};
 ghost use Rattle.names.specs.ByRecord.{writeName};
 
 /// Writes what is stored for the name in the directory with this ID, and for a shortened name its full name to the second buffer.
-/// Rows 2, 3, 7.
+/// Rows 18, 2, 3, 7.
 pub fn write_name(
     v: Vault,
     dir_id: &[u8],
@@ -24,6 +25,10 @@ pub fn write_name(
 ) -> NameAnswer
     ensures { λ r. ⌜ nameEnded (nameMeaning r) (now (stored .exit)) (now (full .exit)) ≡ writeName v (now («dir_id» .entry)) (now (name .entry)) (now (stored .entry)) (now (full .entry)) ⌝ }
 {
+    let threshold = v.threshold;
+    if !threshold_right(threshold as u32) {
+        return NameAnswer::Refused(Refusal::Threshold);
+    }
     if !id_right(dir_id) {
         return NameAnswer::Refused(Refusal::DirectoryId);
     }
@@ -33,7 +38,7 @@ pub fn write_name(
     let enc = v.enc;
     let mac = v.mac;
     let n = full_length(name.len());
-    if short(n) {
+    if short(threshold, n) {
         if stored.len() < n {
             return NameAnswer::Refused(Refusal::Room);
         }

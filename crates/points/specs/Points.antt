@@ -30,12 +30,12 @@ NoFileLength l =
 abbrev pub CoversOfTwo : ℕ → ℕ → ℕ → Type 0
 CoversOfTwo from count i = Covers sivGcm 32893 from count i
 
--- A name of n bytes has a full name of l characters, for which `stored` is stored; a success returns these lengths.
+-- A name of n bytes has a full name of l characters, for which `stored` is stored at the threshold 220; a success returns these lengths.
 abbrev pub Stores : ℕ → ℕ → (List ℕ → List ℕ) → List ℕ → Type 0
 Stores n l stored lengths =
     (enc mac id name : List ℕ) → length name ≡ n →
     let f = fullName enc mac id name in
-    (length f ≡ l) × (storedName f ≡ stored f) × (writtenLengths (length f) ≡ lengths)
+    (length f ≡ l) × (storedName 220 f ≡ stored f) × (writtenLengths 220 (length f) ≡ lengths)
 
 -- Five lengths of files, three that no file has, the chunks that cover two ranges, and two names.
 abbrev pub TestPoints : Type 0

@@ -6,9 +6,9 @@ use mathlib.Core.List.{List}
 use Rattle.octets.specs.Rows.{Outcome, refused, number, End, ended}
 use Rattle.name_spec.specs.Calls.{NameEnd, nameEnded}
 use Rattle.vault.specs.declared.record.Vault.{Vault}
-use Rattle.vault_bytes.specs.VaultBytes.{lentRow, lent, lentEnd}
+use Rattle.vault_bytes.specs.VaultBytes.{lentNameRow, lentBy}
 use Rattle.vault_bytes.proofs.Lending.{lent-refused}
-use Rattle.skrapnefja.specs.Results.{lentNameEnd, writtenAfter, fullLengthAfter, reservedAfter, atAfter, result, resultOf, headerResult, headerResultOf, chunkResult, chunkResultOf, nameResult, nameResultOf}
+use Rattle.skrapnefja.specs.Results.{lentWriterEnd, writtenAfter, fullLengthAfter, reservedAfter, atAfter, comboAfter, thresholdAfter, result, resultOf, headerResult, headerResultOf, chunkResult, chunkResultOf, nameResult, nameResultOf, labelResult, labelResultOf}
 
 module _ {o : Outcome} {r : ℕ} {b : List ℕ} {e : End} (l : ℕ) {l′ : ℕ} (call : ended o b ≡ e) where
   pub joined : (r ≡ number o) × (l′ ≡ writtenAfter o l) → result r b l′ ≡ resultOf e l
@@ -28,22 +28,27 @@ pub joined-name : {o : Outcome} {r : ℕ} {s f : List ℕ} {e : NameEnd} (l m : 
 unfolding nameResultOf
 joined-name l m call h = rw (h .0, h .1, h .2) (ap (λ (x : NameEnd). nameResultOf x l m) call)
 
-module _ (b out : List ℕ) (call : Vault → End) {r : ℕ} (l : ℕ) (e : r ≡ lentRow b) (f : r ≡ 0 → ⊥) where
-  row-alone : ended (refused r) out ≡ lentEnd b call out
+pub joined-label : {o e : Outcome} {r : ℕ} (c t : ℕ) {c′ t′ : ℕ} → o ≡ e → (r ≡ number o) × (c′ ≡ comboAfter o c) × (t′ ≡ thresholdAfter o t) → labelResult r c′ t′ ≡ labelResultOf e c t
+unfolding labelResultOf
+joined-label c t call h = rw (h .0, h .1, h .2) (ap (λ (x : Outcome). labelResultOf x c t) call)
+
+-- The row of the bytes lent, which is lentRow b or lentNameRow b.
+module _ (b out : List ℕ) (call : Vault → End) {r row : ℕ} (l : ℕ) (e : r ≡ row) (f : r ≡ 0 → ⊥) where
+  row-alone : ended (refused r) out ≡ lentBy row b call (λ row. ended (refused row) out)
   row-alone = lent-refused b call (λ row. ended (refused row) out) e f
 
-  pub lent-row : result r out l ≡ resultOf (lentEnd b call out) l
+  pub lent-row : result r out l ≡ resultOf (lentBy row b call (λ row. ended (refused row) out)) l
   unfolding resultOf
   lent-row = ap (λ (x : End). resultOf x l) row-alone
 
-  pub lent-row-header : (v : ℕ) → headerResult r out l v ≡ headerResultOf (lentEnd b call out) l v
+  pub lent-row-header : (v : ℕ) → headerResult r out l v ≡ headerResultOf (lentBy row b call (λ row. ended (refused row) out)) l v
   unfolding headerResultOf
   lent-row-header v = ap (λ (x : End). headerResultOf x l v) row-alone
 
-  pub lent-row-at : (a : ℕ) → chunkResult r out l a ≡ chunkResultOf (lentEnd b call out) l a
+  pub lent-row-at : (a : ℕ) → chunkResult r out l a ≡ chunkResultOf (lentBy row b call (λ row. ended (refused row) out)) l a
   unfolding chunkResultOf
   lent-row-at a = ap (λ (x : End). chunkResultOf x l a) row-alone
 
-pub lent-row-name : (b s t : List ℕ) (call : Vault → NameEnd) {r : ℕ} (l m : ℕ) → r ≡ lentRow b → (r ≡ 0 → ⊥) → nameResult r s t l m ≡ nameResultOf (lentNameEnd b call s t) l m
+pub lent-row-name : (b s t : List ℕ) (call : Vault → NameEnd) {r : ℕ} (l m : ℕ) → r ≡ lentNameRow b → (r ≡ 0 → ⊥) → nameResult r s t l m ≡ nameResultOf (lentWriterEnd b call s t) l m
 unfolding nameResultOf
 lent-row-name b s t call l m e f = ap (λ (x : NameEnd). nameResultOf x l m) (lent-refused b call (λ row. nameEnded (refused row) s t) e f)

@@ -2,3 +2,4 @@ pub mod Refusals
 pub mod Joined
 pub mod Reserved
 pub mod NoVault
+pub mod FromLabel

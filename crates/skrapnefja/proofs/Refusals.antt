@@ -9,30 +9,39 @@ use Rattle.octets.specs.Rows.{number}
 use Rattle.answer.specs.Meaning.{row, meaning, withReserved}
 use Rattle.answer.proofs.Refusal.{the-type}
 use Rattle.answer.specs.declared.Refusal.{Refusal}
-use Rattle.answer.specs.declared.Refusal.the-variants.{KeyOrNonceSize, DirectoryId, Name, Length, Text, Range, Room, RepeatedNonce, Header, Chunk, HashName, SyntheticIv, Combo, CheckValue}
+use Rattle.answer.specs.declared.Refusal.the-variants.{KeyOrNonceSize, DirectoryId, Name, Length, Text, Range, Room, RepeatedNonce, Header, Chunk, HashName, SyntheticIv, Label, Alg, Signature, Format, Combo, Threshold, CheckValue}
 use Rattle.answer.specs.declared.Answer.{Answer}
 use Rattle.answer.specs.declared.Answer.the-variants.{Done, Refused}
-use Rattle.skrapnefja.specs.Results.{writtenAfter, fullLengthAfter, reservedAfter, atAfter}
+use Rattle.skrapnefja.specs.Results.{writtenAfter, fullLengthAfter, reservedAfter, atAfter, comboAfter, thresholdAfter}
 
--- any refusal leaves the lengths and the reserved bytes
-pub keeps-lengths : (x : Refusal) (n : ℕ) → (writtenAfter (row x) n ≡ n) × (fullLengthAfter (row x) n ≡ n) × (reservedAfter (row x) n ≡ n)
-keeps-lengths KeyOrNonceSize n = (refl, refl, refl)
-keeps-lengths DirectoryId n = (refl, refl, refl)
-keeps-lengths Name n = (refl, refl, refl)
-keeps-lengths Length n = (refl, refl, refl)
-keeps-lengths Text n = (refl, refl, refl)
-keeps-lengths Range n = (refl, refl, refl)
-keeps-lengths Room n = (refl, refl, refl)
-keeps-lengths RepeatedNonce n = (refl, refl, refl)
-keeps-lengths Header n = (refl, refl, refl)
-keeps-lengths (Chunk i) n = (refl, refl, refl)
-keeps-lengths HashName n = (refl, refl, refl)
-keeps-lengths SyntheticIv n = (refl, refl, refl)
-keeps-lengths Combo n = (refl, refl, refl)
-keeps-lengths CheckValue n = (refl, refl, refl)
+-- any refusal leaves the lengths, the reserved bytes, and a label's combo and threshold
+pub keeps-lengths : (x : Refusal) (n : ℕ) → (writtenAfter (row x) n ≡ n) × (fullLengthAfter (row x) n ≡ n) × (reservedAfter (row x) n ≡ n) × (comboAfter (row x) n ≡ n) × (thresholdAfter (row x) n ≡ n)
+keeps-lengths KeyOrNonceSize n = (refl, refl, refl, refl, refl)
+keeps-lengths DirectoryId n = (refl, refl, refl, refl, refl)
+keeps-lengths Name n = (refl, refl, refl, refl, refl)
+keeps-lengths Length n = (refl, refl, refl, refl, refl)
+keeps-lengths Text n = (refl, refl, refl, refl, refl)
+keeps-lengths Range n = (refl, refl, refl, refl, refl)
+keeps-lengths Room n = (refl, refl, refl, refl, refl)
+keeps-lengths RepeatedNonce n = (refl, refl, refl, refl, refl)
+keeps-lengths Header n = (refl, refl, refl, refl, refl)
+keeps-lengths (Chunk i) n = (refl, refl, refl, refl, refl)
+keeps-lengths HashName n = (refl, refl, refl, refl, refl)
+keeps-lengths SyntheticIv n = (refl, refl, refl, refl, refl)
+keeps-lengths Label n = (refl, refl, refl, refl, refl)
+keeps-lengths Alg n = (refl, refl, refl, refl, refl)
+keeps-lengths Signature n = (refl, refl, refl, refl, refl)
+keeps-lengths Format n = (refl, refl, refl, refl, refl)
+keeps-lengths Combo n = (refl, refl, refl, refl, refl)
+keeps-lengths Threshold n = (refl, refl, refl, refl, refl)
+keeps-lengths CheckValue n = (refl, refl, refl, refl, refl)
 
--- a refusal that is not `Chunk`, the one with the tag 9, leaves `at`
-pub keeps-at : (x : Refusal) (a : ℕ) → OneOf (0 ∷ 1 ∷ 2 ∷ 3 ∷ 4 ∷ 5 ∷ 6 ∷ 7 ∷ 8 ∷ 10 ∷ 11 ∷ 12 ∷ 13 ∷ []) (tagOf the-type x) → atAfter (row x) a ≡ a
+-- the tags of the refusals but `Chunk`, which has the tag 9
+abbrev others : List ℕ
+others = 0 ∷ 1 ∷ 2 ∷ 3 ∷ 4 ∷ 5 ∷ 6 ∷ 7 ∷ 8 ∷ 10 ∷ 11 ∷ 12 ∷ 13 ∷ 14 ∷ 15 ∷ 16 ∷ 17 ∷ 18 ∷ []
+
+-- any of these leaves `at`
+pub keeps-at : (x : Refusal) (a : ℕ) → OneOf others (tagOf the-type x) → atAfter (row x) a ≡ a
 keeps-at KeyOrNonceSize a k = refl
 keeps-at DirectoryId a k = refl
 keeps-at Name a k = refl
@@ -42,10 +51,15 @@ keeps-at Range a k = refl
 keeps-at Room a k = refl
 keeps-at RepeatedNonce a k = refl
 keeps-at Header a k = refl
-keeps-at (Chunk i) a k = absurd (miss (0 ∷ 1 ∷ 2 ∷ 3 ∷ 4 ∷ 5 ∷ 6 ∷ 7 ∷ 8 ∷ 10 ∷ 11 ∷ 12 ∷ 13 ∷ []) 9 tt k)
+keeps-at (Chunk i) a k = absurd (miss others 9 tt k)
 keeps-at HashName a k = refl
 keeps-at SyntheticIv a k = refl
+keeps-at Label a k = refl
+keeps-at Alg a k = refl
+keeps-at Signature a k = refl
+keeps-at Format a k = refl
 keeps-at Combo a k = refl
+keeps-at Threshold a k = refl
 keeps-at CheckValue a k = refl
 
 -- the reserved bytes behind the length change neither the row nor the length

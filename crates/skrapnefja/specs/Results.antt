@@ -7,7 +7,8 @@ use Rattle.octets.specs.BigEndian.{int}
 use Rattle.octets.specs.Rows.{Outcome, done, refused, refusedAt, number, End}
 use Rattle.name_spec.specs.Calls.{NameEnd, nameEnded}
 use Rattle.vault.specs.declared.record.Vault.{Vault}
-use Rattle.vault_bytes.specs.VaultBytes.{lent}
+use Rattle.vault_bytes.specs.VaultBytes.{lentName, lentEnd}
+use Rattle.names.specs.ByRecord.{dirPath}
 
 -- ---- the numbers, by what they were before
 
@@ -39,6 +40,21 @@ atAfter (done lengths) before = before
 atAfter (refused row) before = before
 atAfter (refusedAt row i) before = i
 
+-- `combo`: the number of a label's combo; a refusal leaves it.
+abbrev pub comboAfter : Outcome → ℕ → ℕ
+comboAfter (done []) before = before
+comboAfter (done (n ∷ rest)) before = n
+comboAfter (refused row) before = before
+comboAfter (refusedAt row i) before = before
+
+-- `threshold`: a label's threshold, which stands behind its combo; a refusal leaves it.
+abbrev pub thresholdAfter : Outcome → ℕ → ℕ
+thresholdAfter (done []) before = before
+thresholdAfter (done (n ∷ [])) before = before
+thresholdAfter (done (n ∷ t ∷ rest)) before = t
+thresholdAfter (refused row) before = before
+thresholdAfter (refusedAt row i) before = before
+
 -- ---- a call with one buffer
 
 pub record Result : Type 0 where
@@ -51,6 +67,10 @@ result r b l = record { returned = r; buffer = b; written = l }
 
 unfoldable pub resultOf : End → ℕ → Result
 resultOf e l = result (number (e .outcome)) (e .buffer) (writtenAfter (e .outcome) l)
+
+-- The path of a directory, which takes any last byte of a lent vault.
+abbrev pub pathEnd : List ℕ → List ℕ → List ℕ → End
+pathEnd b id out = lentEnd b (λ v. dirPath v id out) out
 
 -- ---- the header opener
 
@@ -83,8 +103,8 @@ chunkResultOf e l a = chunkResult (number (e .outcome)) (e .buffer) (writtenAfte
 -- ---- the name writer
 
 -- The row of the bytes lent as a vault leaves both buffers as they were.
-abbrev pub lentNameEnd : List ℕ → (Vault → NameEnd) → List ℕ → List ℕ → NameEnd
-lentNameEnd b call stored full = lent b call (λ row. nameEnded (refused row) stored full)
+abbrev pub lentWriterEnd : List ℕ → (Vault → NameEnd) → List ℕ → List ℕ → NameEnd
+lentWriterEnd b call stored full = lentName b call (λ row. nameEnded (refused row) stored full)
 
 pub record NameResult : Type 0 where
   pub returned : ℕ
@@ -99,3 +119,16 @@ nameResult r s f l m = record { returned = r; stored = s; full = f; written = l;
 unfoldable pub nameResultOf : NameEnd → ℕ → ℕ → NameResult
 nameResultOf e l m =
     nameResult (number (e .outcome)) (e .stored) (e .full) (writtenAfter (e .outcome) l) (fullLengthAfter (e .outcome) m)
+
+-- ---- the label opener
+
+pub record LabelResult : Type 0 where
+  pub returned : ℕ
+  pub combo : ℕ
+  pub threshold : ℕ
+
+abbrev pub labelResult : ℕ → ℕ → ℕ → LabelResult
+labelResult r c t = record { returned = r; combo = c; threshold = t }
+
+unfoldable pub labelResultOf : Outcome → ℕ → ℕ → LabelResult
+labelResultOf o c t = labelResult (number o) (comboAfter o c) (thresholdAfter o t)

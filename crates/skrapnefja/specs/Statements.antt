@@ -1,17 +1,22 @@
 -- What the theorems say of what C callers see: the numbers, and a lent vault that is none.
 -- Assumes nothing.
-use Prim.Native.Nat.{ℕ, _^_, _<_}
+use Prim.Native.Nat.{ℕ, _^_, _<_, _≤_}
 use mathlib.Core.Path.{_≡_}
-use mathlib.Core.List.{List, _∷_}
-use lib.ListN.{length, getD}
+use mathlib.Core.List.{List, [], _∷_, _++_}
+use lib.ListN.{length, take, getD}
 use Rattle.octets.specs.Bytes.{Bytes}
 use Rattle.octets.specs.BigEndian.{be}
 use Rattle.octets.specs.Rows.{done, refused, refusedAt, End}
+use Rattle.threshold.specs.Threshold.{ThresholdFits}
 use Rattle.name_spec.specs.Calls.{NameEnd}
+use Rattle.name_spec.specs.Calls as calls
 use Rattle.vault.specs.declared.record.Vault.{Vault}
-use Rattle.vault_bytes.specs.VaultBytes.{lentEnd}
+use Rattle.frame.specs.Rules.{KeySizes}
+use Rattle.label_spec.specs.Label.{openLabel}
+use Rattle.vault.specs.Vault.{vaultWith}
+use Rattle.vault_bytes.specs.VaultBytes.{comboOf, storeVault, lent, lentName, lentEnd, lentNameEnd}
 use Rattle.vault_bytes.specs.Statements.{KnownCombo}
-use Rattle.skrapnefja.specs.Results.{writtenAfter, fullLengthAfter, reservedAfter, atAfter, lentNameEnd, result, resultOf, headerResult, headerResultOf, chunkResult, chunkResultOf, nameResult, nameResultOf}
+use Rattle.skrapnefja.specs.Results.{writtenAfter, fullLengthAfter, reservedAfter, atAfter, comboAfter, thresholdAfter, lentWriterEnd, pathEnd, result, resultOf, headerResult, headerResultOf, chunkResult, chunkResultOf, nameResult, nameResultOf}
 
 -- Where a success returns eight bytes behind the length, as that of the header opener does, they are the bytes of `reserved`, the highest first, which
 -- has no others; and a refusal leaves `reserved`.
@@ -20,22 +25,60 @@ ReservedBytes =
     ((n before : ℕ) (r : List ℕ) → length r ≡ 8 → Bytes r → (be 8 (reservedAfter (done (n ∷ r)) before) ≡ r) × (reservedAfter (done (n ∷ r)) before < 2 ^ 64))
     × ((row at before : ℕ) → (reservedAfter (refused row) before ≡ before) × (reservedAfter (refusedAt row at) before ≡ before))
 
--- A refusal leaves both lengths; and `at`, unless it returns a number, which `at` then is.
+-- A refusal leaves both lengths, and the combo and the threshold of a label; and `at`, unless it returns a number, which `at` then is.
 abbrev pub RefusalLeaves : Type 0
 RefusalLeaves =
     (row i before : ℕ)
     → (writtenAfter (refused row) before ≡ before) × (fullLengthAfter (refused row) before ≡ before) × (atAfter (refused row) before ≡ before)
     × (writtenAfter (refusedAt row i) before ≡ before) × (fullLengthAfter (refusedAt row i) before ≡ before) × (atAfter (refusedAt row i) before ≡ i)
+    × (comboAfter (refused row) before ≡ before) × (thresholdAfter (refused row) before ≡ before)
 
--- Any call that is lent the bytes b as a vault returns this row, and leaves its buffers and every number as they were.
+-- A success writes what it returns: the length, and behind it that of a shortened name's full name, 0 for any other; of a label the combo's number, and behind it
+-- the threshold.
+abbrev pub SuccessWrites : Type 0
+SuccessWrites =
+    (n m before : ℕ)
+    → (writtenAfter (done (n ∷ [])) before ≡ n) × (fullLengthAfter (done (n ∷ [])) before ≡ 0)
+    × (writtenAfter (done (n ∷ m ∷ [])) before ≡ n) × (fullLengthAfter (done (n ∷ m ∷ [])) before ≡ m)
+    × (comboAfter (done (n ∷ m ∷ [])) before ≡ n) × (thresholdAfter (done (n ∷ m ∷ [])) before ≡ m)
+
+-- Any call but the three on names that is lent the bytes b as a vault returns this row, and leaves its buffer and every number as they were.
 abbrev pub GivesRow : List ℕ → ℕ → Type 0
 GivesRow b row =
-    (out stored full : List ℕ) (call : Vault → End) (nameCall : Vault → NameEnd) (l m : ℕ)
+    (out : List ℕ) (call : Vault → End) (l m : ℕ)
     → (resultOf (lentEnd b call out) l ≡ result row out l)
     × (headerResultOf (lentEnd b call out) l m ≡ headerResult row out l m)
     × (chunkResultOf (lentEnd b call out) l m ≡ chunkResult row out l m)
-    × (nameResultOf (lentNameEnd b nameCall stored full) l m ≡ nameResult row stored full l m)
 
--- Bytes that are not 65 give row 1, and 65 whose last is neither 1 nor 2 row 17.
+-- Each of the three calls on names that is lent them does so, the name writer with both its buffers.
+abbrev pub NamesGiveRow : List ℕ → ℕ → Type 0
+NamesGiveRow b row =
+    (out stored full : List ℕ) (call : Vault → End) (writer : Vault → NameEnd) (l m : ℕ)
+    → (resultOf (lentNameEnd b call out) l ≡ result row out l)
+    × (nameResultOf (lentWriterEnd b writer stored full) l m ≡ nameResult row stored full l m)
+
+-- Bytes that are not 66 give row 1 at every call. 66 whose last is below 36 or above 220 give row 18 at the three calls on names, whatever the last but one. 66 whose
+-- last but one is neither 1 nor 2 give row 17 at every other call, whatever the last, and at those three where the last is from 36 to 220.
 abbrev pub NoVault : Type 0
-NoVault = (b : List ℕ) → ((length b ≡ 65 → ⊥) → GivesRow b 1) × (length b ≡ 65 → (KnownCombo (getD b 64 0) → ⊥) → GivesRow b 17)
+NoVault =
+    (b : List ℕ)
+    → ((length b ≡ 66 → ⊥) → GivesRow b 1 × NamesGiveRow b 1)
+    × (length b ≡ 66 → (ThresholdFits (getD b 65 0) → ⊥) → NamesGiveRow b 18)
+    × (length b ≡ 66 → (KnownCombo (getD b 64 0) → ⊥) → GivesRow b 17 × (ThresholdFits (getD b 65 0) → NamesGiveRow b 17))
+
+-- The path of a directory goes by the keys of a lent vault, whatever its last byte.
+abbrev pub PathOfAnyThreshold : Type 0
+PathOfAnyThreshold =
+    (enc mac id out : List ℕ) (t : ℕ) → KeySizes enc mac
+    → (pathEnd (enc ++ mac ++ 1 ∷ t ∷ []) id out ≡ calls.dirPath enc mac id out)
+    × (pathEnd (enc ++ mac ++ 2 ∷ t ∷ []) id out ≡ calls.dirPath enc mac id out)
+
+-- What a label opens to makes a vault: with two keys of 32 bytes, with which as the raw key it opens, and with room, the making succeeds; and what was made, lent to any call, is
+-- the record of these keys, of the combo that the label names and of its threshold.
+abbrev pub LabelMakesVault : Type 1
+LabelMakesVault =
+    (A : Type 0) (enc mac l out : List ℕ) (n t : ℕ) (call : Vault → A) (refusal : ℕ → A) → KeySizes enc mac → 66 ≤ length out → openLabel (enc ++ mac) l ≡ done (n ∷ t ∷ []) →
+    let made = storeVault enc mac n t out in
+    (made .outcome ≡ done (66 ∷ []))
+    × (lent (take 66 (made .buffer)) call refusal ≡ call (vaultWith enc mac (comboOf n) t))
+    × (lentName (take 66 (made .buffer)) call refusal ≡ call (vaultWith enc mac (comboOf n) t))

@@ -4,11 +4,13 @@ use answer::HeaderAnswer;
 use answer::NameAnswer;
 use answer::Refusal;
 use answer::row_number;
+use label::open::LabelAnswer;
 use octets::word::join_eight;
 ghost use mathlib.Core.Path.{_≡_};
 ghost use Rattle.octets.specs.Rows.{number};
 ghost use Rattle.answer.specs.Meaning.{meaning, headerMeaning, nameMeaning};
-ghost use Rattle.skrapnefja.specs.Results.{writtenAfter, reservedAfter, fullLengthAfter, atAfter};
+ghost use Rattle.label.specs.Opened.{labelMeaning};
+ghost use Rattle.skrapnefja.specs.Results.{writtenAfter, reservedAfter, fullLengthAfter, atAfter, comboAfter, thresholdAfter};
 
 // Ends a call that answers a length.
 pub fn end(answer: Answer, written: &mut u64) -> u32
@@ -78,5 +80,19 @@ pub fn end_name(answer: NameAnswer, written: &mut u64, full_length: &mut u64) ->
             0
         }
         NameAnswer::Refused(refusal) => row_number(refusal),
+    }
+}
+
+// Ends the opening of a label.
+pub fn end_label(answer: LabelAnswer, combo: &mut u32, threshold: &mut u32) -> u32
+    ensures { λ r. ⌜ (r ≡ number (labelMeaning answer)) × (now (combo .exit) ≡ comboAfter (labelMeaning answer) (now (combo .entry))) × (now (threshold .exit) ≡ thresholdAfter (labelMeaning answer) (now (threshold .entry))) ⌝ }
+{
+    match answer {
+        LabelAnswer::Opened(c, t) => {
+            *combo = c;
+            *threshold = t;
+            0
+        }
+        LabelAnswer::Refused(refusal) => row_number(refusal),
     }
 }

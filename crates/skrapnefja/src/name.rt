@@ -5,12 +5,13 @@ use names::opener::open_long_name;
 use names::opener::open_name;
 use names::path::dir_path;
 use names::writer::write_name;
+use vault_bytes::lent_name_row;
 use vault_bytes::lent_row;
 use vault_bytes::vault_in;
 ghost use mathlib.Core.Path.{_≡_};
-ghost use Rattle.names.specs.ByRecord.{writeName, openName, openLongName, dirPath};
-ghost use Rattle.vault_bytes.specs.VaultBytes.{lentEnd};
-ghost use Rattle.skrapnefja.specs.Results.{lentNameEnd, result, resultOf, nameResult, nameResultOf};
+ghost use Rattle.names.specs.ByRecord.{writeName, openName, openLongName};
+ghost use Rattle.vault_bytes.specs.VaultBytes.{lentNameEnd};
+ghost use Rattle.skrapnefja.specs.Results.{lentWriterEnd, pathEnd, result, resultOf, nameResult, nameResultOf};
 
 // Writes what is stored for a name in the directory with this ID, and for a shortened name its full name to the second buffer.
 #[no_mangle]
@@ -23,9 +24,9 @@ pub extern "C" fn skrapnefja_write_name(
     written: &mut u64,
     full_length: &mut u64,
 ) -> u32
-    ensures { λ r. ⌜ nameResult r (now (stored .exit)) (now (full .exit)) (now (written .exit)) (now («full_length» .exit)) ≡ nameResultOf (lentNameEnd (now (vault .entry)) (λ v. writeName v (now («dir_id» .entry)) (now (name .entry)) (now (stored .entry)) (now (full .entry))) (now (stored .entry)) (now (full .entry))) (now (written .entry)) (now («full_length» .entry)) ⌝ }
+    ensures { λ r. ⌜ nameResult r (now (stored .exit)) (now (full .exit)) (now (written .exit)) (now («full_length» .exit)) ≡ nameResultOf (lentWriterEnd (now (vault .entry)) (λ v. writeName v (now («dir_id» .entry)) (now (name .entry)) (now (stored .entry)) (now (full .entry))) (now (stored .entry)) (now (full .entry))) (now (written .entry)) (now («full_length» .entry)) ⌝ }
 {
-    let row = lent_row(vault);
+    let row = lent_name_row(vault);
     if row != 0 {
         return row;
     }
@@ -45,9 +46,9 @@ pub extern "C" fn skrapnefja_open_name(
     out: &mut [u8],
     written: &mut u64,
 ) -> u32
-    ensures { λ r. ⌜ result r (now (out .exit)) (now (written .exit)) ≡ resultOf (lentEnd (now (vault .entry)) (λ v. openName v (now («dir_id» .entry)) (now (stored .entry)) (now (out .entry))) (now (out .entry))) (now (written .entry)) ⌝ }
+    ensures { λ r. ⌜ result r (now (out .exit)) (now (written .exit)) ≡ resultOf (lentNameEnd (now (vault .entry)) (λ v. openName v (now («dir_id» .entry)) (now (stored .entry)) (now (out .entry))) (now (out .entry))) (now (written .entry)) ⌝ }
 {
-    let row = lent_row(vault);
+    let row = lent_name_row(vault);
     if row != 0 {
         return row;
     }
@@ -64,9 +65,9 @@ pub extern "C" fn skrapnefja_open_long_name(
     out: &mut [u8],
     written: &mut u64,
 ) -> u32
-    ensures { λ r. ⌜ result r (now (out .exit)) (now (written .exit)) ≡ resultOf (lentEnd (now (vault .entry)) (λ v. openLongName v (now («dir_id» .entry)) (now (stored .entry)) (now (full .entry)) (now (out .entry))) (now (out .entry))) (now (written .entry)) ⌝ }
+    ensures { λ r. ⌜ result r (now (out .exit)) (now (written .exit)) ≡ resultOf (lentNameEnd (now (vault .entry)) (λ v. openLongName v (now («dir_id» .entry)) (now (stored .entry)) (now (full .entry)) (now (out .entry))) (now (out .entry))) (now (written .entry)) ⌝ }
 {
-    let row = lent_row(vault);
+    let row = lent_name_row(vault);
     if row != 0 {
         return row;
     }
@@ -84,7 +85,7 @@ pub extern "C" fn skrapnefja_dir_path(
     out: &mut [u8],
     written: &mut u64,
 ) -> u32
-    ensures { λ r. ⌜ result r (now (out .exit)) (now (written .exit)) ≡ resultOf (lentEnd (now (vault .entry)) (λ v. dirPath v (now («dir_id» .entry)) (now (out .entry))) (now (out .entry))) (now (written .entry)) ⌝ }
+    ensures { λ r. ⌜ result r (now (out .exit)) (now (written .exit)) ≡ resultOf (pathEnd (now (vault .entry)) (now («dir_id» .entry)) (now (out .entry))) (now (written .entry)) ⌝ }
 {
     let row = lent_row(vault);
     if row != 0 {

@@ -2,18 +2,18 @@
 -- Assumes nothing.
 use Prim.Native.Nat.{ℕ, _+_, _-_, _*_, _/_, _%_, _<_, _≤_}
 use mathlib.Core.Path.{_≡_, refl, sym, ap, ap₂, _∙_}
-use mathlib.Core.Bool.{true, false, cond}
+use mathlib.Core.Bool.{true, false}
 use mathlib.Core.List.{List, [], _∷_, _++_, append-nil}
 use mathlib.Core.Logic.{inl, inr, ⊎-elim}
 use native.Mathlib.Nat.{div-div-eq-div-mul}
 use native.Mathlib.Omega.{arith}
-use lib.Dec.{leb}
-use lib.ListN.{length, drop, getD}
+use lib.ListN.{length, take, drop}
 use borrow.Author.Tests.{le-leb, lt-leb}
 use Rattle.octets.proofs.Equality.{true-false}
 use Rattle.octets.proofs.Lists.{le-or-lt}
 use Rattle.utf8.specs.Utf8.{wellFormed, Scalars, encode, encoded, Encoding}
 use Rattle.utf8.specs.Continued.{continued}
+use Rattle.utf8.specs.Character.{size, number}
 use Rattle.utf8.specs.Statements.{WellFormedExactly, EncodedOnce, EncodeExactly}
 use Rattle.utf8.proofs.Ranges.{over}
 use Rattle.utf8.proofs.Characters.{Chars, none, one, two, three, four, chars, chars-formed}
@@ -69,7 +69,7 @@ past c l =
     ap wellFormed (encode4 c (omega arith))
     ∙ ⊎-elim (λ (p : 0xf5 ≤ a). behind-none a s (omega arith)) (λ (p : a < 0xf5). behind-f4 a (omega arith) s (omega arith) ∙ rw (over 0x80 0x8f b (omega arith))) (le-or-lt 0xf5 a)
 
-alone : (c : ℕ) → Scalars (c ∷ []) → wellFormed (encode c) ≡ true
+pub alone : (c : ℕ) → Scalars (c ∷ []) → wellFormed (encode c) ≡ true
 unfolding encoded
 alone c h = well-formed-exactly (encode c) .1 (c ∷ [], h, append-nil (encode c))
 
@@ -84,46 +84,31 @@ encode-exactly c = (
 
 -- ---- one list only
 
--- The first scalar value of a text, and how many bytes it takes, by its first byte.
-lead : List ℕ → ℕ
-lead l = getD l 0 0
-
-tailAt : List ℕ → ℕ → ℕ
-tailAt l i = getD l i 0 - 0x80
-
-number : List ℕ → ℕ
-number l =
-    cond (leb (lead l) 0x7f) (lead l)
-    (cond (leb (lead l) 0xdf) ((lead l - 0xc0) * 64 + tailAt l 1)
-    (cond (leb (lead l) 0xef) ((lead l - 0xe0) * 4096 + tailAt l 1 * 64 + tailAt l 2)
-    ((lead l - 0xf0) * 262144 + tailAt l 1 * 4096 + tailAt l 2 * 64 + tailAt l 3)))
-
-size : List ℕ → ℕ
-size l = cond (leb (lead l) 0x7f) 1 (cond (leb (lead l) 0xdf) 2 (cond (leb (lead l) 0xef) 3 4))
-
-first-is : (c : ℕ) (s : List ℕ) → Table c → (number (encode c ++ s) ≡ c) × (drop (size (encode c ++ s)) (encode c ++ s) ≡ s)
-unfolding lead tailAt number size
-first-is c s (row1 h) = rw (encode1 c h, le-leb c 0x7f h) (refl, refl)
+-- The first scalar value of a text, what stands behind it, and its octets.
+pub first-is : (c : ℕ) (s : List ℕ) → Table c
+    → (number (encode c ++ s) ≡ c) × (drop (size (encode c ++ s)) (encode c ++ s) ≡ s) × (take (size (encode c ++ s)) (encode c ++ s) ≡ encode c)
+unfolding number size
+first-is c s (row1 h) = rw (encode1 c h, le-leb c 0x7f h) (refl, refl, refl)
 first-is c s (row2 l h) =
     let p : 0x7f < 0xc0 + c / 64 = omega arith in
     let q : 0xc0 + c / 64 ≤ 0xdf = omega arith in
     let e : (0xc0 + c / 64 - 0xc0) * 64 + (0x80 + c % 64 - 0x80) ≡ c = omega arith in
-    rw (encode2 c l h, lt-leb (0xc0 + c / 64) 0x7f p, le-leb (0xc0 + c / 64) 0xdf q) (e, refl)
+    rw (encode2 c l h, lt-leb (0xc0 + c / 64) 0x7f p, le-leb (0xc0 + c / 64) 0xdf q) (e, refl, refl)
 first-is c s (row3 l h g) =
     let p : 0x7f < 0xe0 + c / 4096 = omega arith in
     let q : 0xdf < 0xe0 + c / 4096 = omega arith in
     let r : 0xe0 + c / 4096 ≤ 0xef = omega arith in
     let e : (0xe0 + c / 4096 - 0xe0) * 4096 + (0x80 + c / 64 % 64 - 0x80) * 64 + (0x80 + c % 64 - 0x80) ≡ c = omega (arith, div-div-eq-div-mul c 64 64) in
-    rw (encode3 c l h, lt-leb (0xe0 + c / 4096) 0x7f p, lt-leb (0xe0 + c / 4096) 0xdf q, le-leb (0xe0 + c / 4096) 0xef r) (e, refl)
+    rw (encode3 c l h, lt-leb (0xe0 + c / 4096) 0x7f p, lt-leb (0xe0 + c / 4096) 0xdf q, le-leb (0xe0 + c / 4096) 0xef r) (e, refl, refl)
 first-is c s (row4 l h) =
     let p : 0x7f < 0xf0 + c / 262144 = omega arith in
     let q : 0xdf < 0xf0 + c / 262144 = omega arith in
     let r : 0xef < 0xf0 + c / 262144 = omega arith in
     let e : (0xf0 + c / 262144 - 0xf0) * 262144 + (0x80 + c / 4096 % 64 - 0x80) * 4096 + (0x80 + c / 64 % 64 - 0x80) * 64 + (0x80 + c % 64 - 0x80) ≡ c = omega (arith, div-div-eq-div-mul c 64 64, div-div-eq-div-mul c 4096 64) in
-    rw (encode4 c l, lt-leb (0xf0 + c / 262144) 0x7f p, lt-leb (0xf0 + c / 262144) 0xdf q, lt-leb (0xf0 + c / 262144) 0xef r) (e, refl)
+    rw (encode4 c l, lt-leb (0xf0 + c / 262144) 0x7f p, lt-leb (0xf0 + c / 262144) 0xdf q, lt-leb (0xf0 + c / 262144) 0xef r) (e, refl, refl)
 
 -- A scalar value has an octet.
-some : (c : ℕ) (s : List ℕ) → Table c → 1 ≤ length (encode c ++ s)
+pub some : (c : ℕ) (s : List ℕ) → Table c → 1 ≤ length (encode c ++ s)
 some c s (row1 h) = rw (encode1 c h) (omega arith)
 some c s (row2 l h) = rw (encode2 c l h) (omega arith)
 some c s (row3 l h g) = rw (encode3 c l h) (omega arith)

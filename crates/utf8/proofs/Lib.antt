@@ -2,7 +2,9 @@ pub mod Alternatives
 pub mod Ranges
 pub mod Characters
 pub mod Encoding
+pub mod Options
 pub mod Exactly
+pub mod FirstCharacter
 pub mod ProperText
 pub mod FirstByte
 pub mod Examples

@@ -2,7 +2,7 @@
 -- Assumes nothing.
 use mathlib.Core.Path.{_≡_}
 use Prim.Native.Nat.{ℕ, zero, suc, _<_}
-use mathlib.Core.Bool.{Bool, false, _&&_}
+use mathlib.Core.Bool.{Bool, true, false, _&&_}
 use mathlib.Core.List.{List, [], _∷_}
 use lib.ListN.{drop}
 use Rattle.utf8.specs.Utf8.{within, wellFormed}
@@ -15,6 +15,12 @@ unfoldable pub continued : ℕ → ℕ → ℕ → List ℕ → Bool
 continued zero lo hi s = wellFormed s
 continued (suc n) lo hi [] = false
 continued (suc n) lo hi (b ∷ s) = within lo hi b && continued n 0x80 0xbf s
+
+-- The bytes s begin with such n tails.
+unfoldable pub tailsFrom : ℕ → ℕ → ℕ → List ℕ → Bool
+tailsFrom zero lo hi s = true
+tailsFrom (suc n) lo hi [] = false
+tailsFrom (suc n) lo hi (b ∷ s) = within lo hi b && tailsFrom n 0x80 0xbf s
 
 -- The bytes s go on as w awaits.
 abbrev pub goesOn : Awaited → List ℕ → Bool

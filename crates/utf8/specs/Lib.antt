@@ -1,4 +1,5 @@
 pub mod Utf8
+pub mod Character
 pub mod ProperText
 pub mod Continued
 pub mod Statements

@@ -3,10 +3,12 @@
 use mathlib.Core.Path.{_≡_}
 use mathlib.Core.Bool.{true}
 use mathlib.Core.Logic.{_↔_, _⊎_}
-use mathlib.Core.List.{List}
+use mathlib.Core.List.{List, _++_}
+use mathlib.Core.Option.{some}
 use Prim.Native.Nat.{ℕ, _<_, _≤_}
 use Rattle.octets.specs.Bytes.{Below, Bytes}
-use Rattle.utf8.specs.Utf8.{wellFormed, Scalars, encode, encoded, Encoding}
+use Rattle.utf8.specs.Utf8.{wellFormed, Scalar, Scalars, encode, encoded, Encoding}
+use Rattle.utf8.specs.Character.{character}
 use Rattle.utf8.specs.ProperText.{properText, Lacks, ProperText}
 
 -- A text is well formed exactly when it is the encoding of some list of scalar values.
@@ -20,6 +22,10 @@ EncodedOnce = (cs ds : List ℕ) → Scalars cs → Scalars ds → encoded cs �
 -- For every number: its octets are well formed exactly when it is from 0 to D7FF or from E000 to 10FFFF.
 abbrev pub EncodeExactly : Type 0
 EncodeExactly = (c : ℕ) → (wellFormed (encode c) ≡ true) ↔ ((c < 0xd800) ⊎ ((0xe000 ≤ c) × (c ≤ 0x10ffff)))
+
+-- A text begins with a character, and the octets r stand behind it, exactly when it is the encoding of that character and then r.
+abbrev pub CharacterExactly : Type 0
+CharacterExactly = (c : ℕ) (s r : List ℕ) → (character s ≡ some (c, r)) ↔ (Scalar c × (encode c ++ r ≡ s))
 
 -- An encoding is a byte string.
 abbrev pub EncodingBytes : Type 0

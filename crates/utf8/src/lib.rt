@@ -1,12 +1,14 @@
 // RFC 3629, character after character: is a text well-formed UTF-8, and proper text, as a name must be?
 ghost use mathlib.Core.Path.{_≡_};
-ghost use mathlib.Core.Bool.{true, false, _&&_};
+ghost use mathlib.Core.Bool.{true, false};
 ghost use mathlib.Core.List.{List, _∷_};
+ghost use mathlib.Core.Option.{none, some};
 ghost use Prim.Native.Nat.{ℕ, _≤_, _<_, _+_};
 ghost use lib.ListN.{length, drop};
 ghost use Rattle.utf8.specs.Utf8.{wellFormed};
 ghost use Rattle.utf8.specs.ProperText.{properText};
-ghost use Rattle.utf8.specs.Continued.{continued, goesOn, Passed};
+ghost use Rattle.utf8.specs.Character.{character};
+ghost use Rattle.utf8.specs.Continued.{continued, tailsFrom, goesOn, Passed};
 
 // What is awaited behind the first byte of a character: so many tails, the first of them from low to high.
 struct Awaited {
@@ -86,7 +88,7 @@ fn behind(b: u8) -> Awaited
 // Do the tails that w awaits stand in s from j on?
 fn tails_at(s: &[u8], j: usize, w: Awaited) -> bool
     requires { ⌜ (j ≤ length (now s)) × (0x80 ≤ w .low) ⌝ }
-    ensures { λ r. ⌜ goesOn w (drop j (now (s .entry))) ≡ (r && wellFormed (drop (j + w .tails) (now (s .entry)))) ⌝ }
+    ensures { λ r. ⌜ r ≡ tailsFrom (w .tails) (w .low) (w .high) (drop j (now (s .entry))) ⌝ }
     ensures { λ r. ⌜ (r ≡ true → (j + w .tails ≤ length (now (s .entry))) × Passed (now (s .entry)) j (j + w .tails)) ⌝ }
 {
     let n = w.tails as usize;
@@ -111,8 +113,27 @@ fn tails_at(s: &[u8], j: usize, w: Awaited) -> bool
     true
 }
 
+// How many bytes the character at i has; 0 where none stands there.
+pub fn char_size(s: &[u8], i: usize) -> usize
+    requires { ⌜ i < length (now s) ⌝ }
+    ensures { λ r. ⌜ (r ≡ 0 → (character (drop i (now (s .entry))) ≡ none) × (wellFormed (drop i (now (s .entry))) ≡ false)) ⌝ }
+    ensures { λ r. ⌜ (1 ≤ r → (i + r ≤ length (now (s .entry))) × Passed (now (s .entry)) (i + 1) (i + r)) ⌝ }
+    ensures { λ r. ⌜ (1 ≤ r → wellFormed (drop i (now (s .entry))) ≡ wellFormed (drop (i + r) (now (s .entry)))) ⌝ }
+    ensures { λ r. ⌜ (1 ≤ r → (c : ℕ) × (character (drop i (now (s .entry))) ≡ some (c, drop (i + r) (now (s .entry))))) ⌝ }
+{
+    let b = s[i];
+    if b < 0x80 {
+        return 1;
+    }
+    let w = behind(b);
+    if !tails_at(s, i + 1, w) {
+        return 0;
+    }
+    1 + w.tails as usize
+}
+
 // How many bytes the character at i has; 0 where none stands there, or one that a name may not have.
-fn character(s: &[u8], i: usize) -> usize
+fn proper_size(s: &[u8], i: usize) -> usize
     requires { ⌜ i < length (now s) ⌝ }
     ensures { λ r. ⌜ (r ≡ 0 → properText (drop i (now (s .entry))) ≡ false) ⌝ }
     ensures { λ r. ⌜ (1 ≤ r → (i + r ≤ length (now (s .entry))) × (properText (drop i (now (s .entry))) ≡ properText (drop (i + r) (now (s .entry))))) ⌝ }
@@ -124,14 +145,7 @@ fn character(s: &[u8], i: usize) -> usize
     if b == 0x2f {
         return 0;
     }
-    if b < 0x80 {
-        return 1;
-    }
-    let w = behind(b);
-    if !tails_at(s, i + 1, w) {
-        return 0;
-    }
-    1 + w.tails as usize
+    char_size(s, i)
 }
 
 // Is it proper text: well-formed UTF-8, with no zero byte and no '/'?
@@ -140,7 +154,7 @@ pub fn proper_text(s: &[u8]) -> bool
 {
     let mut i = 0;
     while i < s.len() {
-        let n = character(s, i);
+        let n = proper_size(s, i);
         if n == 0 {
             return false;
         }

@@ -21,8 +21,7 @@ use Rattle.siv_ctrmac.proofs.Sealed as ctrmac-sealed
 use Rattle.siv_ctrmac.proofs.Instance as ctrmac
 use Rattle.vault.specs.declared.record.Combo.{Combo}
 use Rattle.vault.specs.declared.record.Combo.the-variants.{SivGcm, SivCtrmac}
-use Rattle.vault.specs.declared.record.Vault.{Vault}
-use Rattle.vault.specs.Vault.{sizesOf, codecWith, codecOf}
+use Rattle.vault.specs.Vault.{sizesOf, codecWith}
 use Rattle.vault.specs.Under.{sealedUnder, openedUnder}
 use Rattle.vault.specs.Combos.{TwoCombos, ChunkKeys}
 
@@ -97,4 +96,4 @@ unfolding writeChunkRows writeChunk openChunkRows openChunk
 chunk-keys h i n p c out enc enc′ mac mac′ = (λ k. chunk-keys-by k h i n p c out enc enc′ mac, refl, refl)
 
 pub two-combos : TwoCombos
-two-combos = (λ enc mac. (refl, refl), λ v. sym (ap (λ (C : Codec). C .sizes) (codec-by (v .combo) (v .enc) (v .mac))), refl, refl)
+two-combos = (λ enc mac threshold. (refl, refl), λ v. sym (ap (λ (C : Codec). C .sizes) (codec-by (v .combo) (v .enc) (v .mac))), refl, refl)

@@ -13,10 +13,11 @@ use Rattle.vault.specs.declared.record.Vault.{Vault}
 use Rattle.vault.specs.Vault.{sizesOf, codecWith, vaultWith, codecOf}
 
 -- The record's combo decides how headers and chunks are stored, under the record's own keys, and their sizes: a header, a nonce and the overhead of a
--- chunk have 68, 12 and 28 bytes in SIV_GCM, and 88, 16 and 48 in SIV_CTRMAC.
+-- chunk have 68, 12 and 28 bytes in SIV_GCM, and 88, 16 and 48 in SIV_CTRMAC. The threshold has no part in it.
 abbrev pub TwoCombos : Type 0
 TwoCombos =
-    ((enc mac : List ℕ) → (codecOf (vaultWith enc mac SivGcm) ≡ gcm.codec enc mac) × (codecOf (vaultWith enc mac SivCtrmac) ≡ ctrmac.codec enc mac))
+    ((enc mac : List ℕ) (threshold : ℕ)
+    → (codecOf (vaultWith enc mac SivGcm threshold) ≡ gcm.codec enc mac) × (codecOf (vaultWith enc mac SivCtrmac threshold) ≡ ctrmac.codec enc mac))
     × ((v : Vault) → codecOf v .sizes ≡ sizesOf (v .combo))
     × (sizesOf SivGcm ≡ record { header = 68; nonce = 12; overhead = 28 })
     × (sizesOf SivCtrmac ≡ record { header = 88; nonce = 16; overhead = 48 })

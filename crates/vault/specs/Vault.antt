@@ -22,9 +22,9 @@ abbrev pub codecWith : Combo → List ℕ → List ℕ → Codec
 codecWith SivGcm enc mac = gcm.codec enc mac
 codecWith SivCtrmac enc mac = ctrmac.codec enc mac
 
--- The record of two keys and a combo.
-abbrev pub vaultWith : List ℕ → List ℕ → Combo → Vault
-vaultWith enc mac combo = record { enc = enc; mac = mac; combo = combo }
+-- The record of two keys, a combo and a threshold.
+abbrev pub vaultWith : List ℕ → List ℕ → Combo → ℕ → Vault
+vaultWith enc mac combo threshold = record { enc = enc; mac = mac; combo = combo; threshold = threshold }
 
 abbrev pub codecOf : Vault → Codec
 codecOf v = codecWith (v .combo) (v .enc) (v .mac)

@@ -1,6 +1,7 @@
 // Published vectors of the building blocks, values of the stock program's tests, and values under keys, nonces and a number that all
 // differ (`second/vectors/distinct.txt`), a line each: what it prints is compared with those values.
 mod ctrmac;
+mod labels;
 
 use content::chunk::open_chunk;
 use content::chunk::write_chunk;
@@ -34,9 +35,9 @@ use vault::record::Combo;
 use vault::record::Vault;
 use vault::record::make_vault;
 
-// The vault of two master keys of 32 bytes.
+// The vault of two master keys of 32 bytes, with the stock program's threshold.
 fn vault_of(enc: &[u8], mac: &[u8], combo: Combo) -> Vault {
-    let made = make_vault(enc, mac, combo);
+    let made = make_vault(enc, mac, combo, 220);
     made.vault
 }
 
@@ -357,6 +358,7 @@ fn distinct() {
     long_names(v, id);
     wrapped(enc, content_key);
     ctrmac::distinct(vault_of(enc, mac, Combo::SivCtrmac), content_key);
+    labels::distinct();
 }
 
 fn main() {

@@ -8,7 +8,11 @@ use std::ops::RangeInclusive;
 pub const ENC: [u8; 32] = [0x55; 32];
 pub const MAC: [u8; 32] = [0x77; 32];
 pub const CONTENT_KEY: [u8; 32] = [0x33; 32];
+pub const RAW_KEY: [u8; 64] = [0x44; 64];
 pub const DIR_ID: &[u8] = b"e9250eb8-078d-4fc0-8835-be92a313360c";
+
+/// The threshold of most vaults.
+const THRESHOLD: u32 = 220;
 
 /// The same vault for each program.
 pub struct Vaults {
@@ -22,9 +26,13 @@ impl Vaults {
             Combo::SivGcm => skrapnefja::Combo::SivGcm,
             Combo::SivCtrmac => skrapnefja::Combo::SivCtrmac,
         };
+        let label = skrapnefja::Label {
+            combo: same,
+            threshold: THRESHOLD,
+        };
         Vaults {
-            library: skrapnefja::Vault::new(&ENC, &MAC, same).expect("two keys"),
-            second: second::vault::Vault::new(&ENC, &MAC, combo).expect("two keys"),
+            library: skrapnefja::Vault::new(&ENC, &MAC, label).expect("two keys"),
+            second: second::vault::Vault::new(&ENC, &MAC, combo, THRESHOLD).expect("two keys"),
         }
     }
 }

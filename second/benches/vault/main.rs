@@ -4,9 +4,14 @@
 mod files;
 mod inputs;
 mod keys;
+mod labels;
 mod long_names;
 mod names;
 mod parts;
+#[path = "../../tests/common"]
+mod common {
+    pub mod labels;
+}
 #[expect(dead_code, reason = "only what files are made by is timed by itself")]
 #[path = "../../tests/common/primitives.rs"]
 mod primitives;
@@ -15,6 +20,7 @@ mod random;
 #[path = "../../tests/stack"]
 mod stack {
     pub mod calls;
+    pub mod labels;
     pub mod measure;
 }
 #[expect(dead_code, reason = "names are timed in one alphabet each")]
@@ -38,6 +44,7 @@ fn main() {
     names::run();
     long_names::run();
     keys::run();
+    labels::run();
     println!();
     parts::run();
     println!();

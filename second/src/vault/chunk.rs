@@ -128,7 +128,7 @@ mod tests {
             "00000000000000000000000000000000b4f0ac14cd60fee6df24c6\
              2a58646bd58fbd7d4ba67e4461f5719725f52128115ed7519e2bcceebe85dce8",
         ]) {
-            let vault = Vault::new(&KEY, &KEY, combo).expect("two keys");
+            let vault = Vault::new(&KEY, &KEY, combo, 220).expect("two keys");
             let nonce = &NONCE[..combo.nonce_len()];
             let expected = hex::decode(expected).expect("digits");
             let mut out = vec![7; expected.len() + 2];

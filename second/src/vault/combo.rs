@@ -3,6 +3,7 @@
 use super::header::PAYLOAD_LEN;
 use super::lengths::CHUNK_LEN;
 use super::Refusal;
+use crate::json::{is, Text};
 use crate::{ctr_hmac, gcm};
 
 /// How the contents of files are encrypted. Names are by SIV in both.
@@ -29,6 +30,21 @@ impl Combo {
     pub fn of_number(number: u32) -> Result<Self, Refusal> {
         let mut combos = Combo::ALL.into_iter();
         let found = combos.find(|combo| u32::from(combo.number()) == number);
+        found.ok_or(Refusal::Combo)
+    }
+
+    /// What stands for it in a label.
+    pub fn name(self) -> &'static str {
+        match self {
+            Combo::SivGcm => "SIV_GCM",
+            Combo::SivCtrmac => "SIV_CTRMAC",
+        }
+    }
+
+    /// By its name (row 17).
+    pub fn of_name(name: &Text) -> Result<Self, Refusal> {
+        let mut combos = Combo::ALL.into_iter();
+        let found = combos.find(|combo| is(name, combo.name()));
         found.ok_or(Refusal::Combo)
     }
 
@@ -75,6 +91,25 @@ mod tests {
         }
         for combo in Combo::ALL {
             assert_eq!(Combo::of_number(combo.number().into()), Ok(combo));
+        }
+    }
+
+    #[test]
+    fn names() {
+        let of_name = |name: &str| Combo::of_name(&name.chars().map(u32::from).collect());
+        assert_eq!(of_name("SIV_GCM"), Ok(Combo::SivGcm));
+        assert_eq!(of_name("SIV_CTRMAC"), Ok(Combo::SivCtrmac));
+        for other in [
+            "",
+            "SIV",
+            "SIV_",
+            "siv_gcm",
+            "SIV_GCM ",
+            "SIV_CTRMAC\0",
+            "SIV-GCM",
+            "1",
+        ] {
+            assert_eq!(of_name(other), Err(Refusal::Combo));
         }
     }
 

@@ -31,7 +31,7 @@ mod tests {
     #[test]
     fn stock_program() {
         for combo in Combo::ALL {
-            let vault = Vault::new(&[0x55; 32], &[0x77; 32], combo).expect("two keys");
+            let vault = Vault::new(&[0x55; 32], &[0x77; 32], combo, 220).expect("two keys");
             let mut out = [b'.'; PATH_LEN + 1];
             assert_eq!(vault.dir_path(b"", &mut out), Ok(PATH_LEN));
             assert_eq!(&out, b"/d/VL/WEHT553J5DR7OZLRJAYDIWFCXZABOD.");

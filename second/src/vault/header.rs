@@ -93,7 +93,7 @@ mod tests {
                         d1a2f58e7506358edd4ab1284d4ae17b2fa66951ba3f4176441999\
                         47be128d4d";
         let expected = hex::decode(expected).expect("digits");
-        let vault = Vault::new(&[0; 32], &[1; 32], Combo::SivGcm).expect("two keys");
+        let vault = Vault::new(&[0; 32], &[1; 32], Combo::SivGcm, 220).expect("two keys");
         let mut out = [7; 70];
         let length = vault.write_header(&[0; 12], &[0; 32], &mut out);
         assert_eq!(length, Ok(68));

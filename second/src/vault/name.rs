@@ -2,9 +2,8 @@
 
 use super::directory::check_id;
 use super::sizes::{put, room};
-use super::text::{
-    full_len, full_name, hash_name, sealed_name, HASH_NAME_LEN, MAX_NAME_LEN, MAX_PLAIN_LEN,
-};
+use super::text::{full_len, full_name, hash_name, sealed_name, HASH_NAME_LEN, MAX_NAME_LEN};
+use super::threshold::check_threshold;
 use super::{Refusal, Vault};
 use crate::siv::{self, IV_LEN};
 use crate::utf8;
@@ -28,11 +27,12 @@ impl Vault {
         stored: &mut [u8],
         full: &mut [u8],
     ) -> Result<WrittenName, Refusal> {
+        check_threshold(self.threshold)?;
         check_id(dir_id)?;
         Refusal::Name.unless((1..=MAX_NAME_LEN).contains(&name.len()))?;
         Refusal::Name.unless(utf8::is_proper(name))?;
         let length = full_len(name.len());
-        let plain = length <= MAX_PLAIN_LEN;
+        let plain = self.is_plain(length);
         if plain {
             room(stored, length)?;
         } else {
@@ -56,8 +56,9 @@ impl Vault {
         stored: &[u8],
         out: &mut [u8],
     ) -> Result<usize, Refusal> {
+        check_threshold(self.threshold)?;
         check_id(dir_id)?;
-        Refusal::Text.unless(stored.len() <= MAX_PLAIN_LEN)?;
+        Refusal::Text.unless(self.is_plain(stored.len()))?;
         let sealed = sealed_name(stored).ok_or(Refusal::Text)?;
         room(out, sealed.len() - IV_LEN)?;
         self.open_sealed_name(dir_id, &sealed, out)
@@ -71,12 +72,18 @@ impl Vault {
         full: &[u8],
         out: &mut [u8],
     ) -> Result<usize, Refusal> {
+        check_threshold(self.threshold)?;
         check_id(dir_id)?;
         let sealed = sealed_name(full).ok_or(Refusal::Text)?;
         room(out, sealed.len() - IV_LEN)?;
-        Refusal::HashName.unless(full.len() > MAX_PLAIN_LEN)?;
+        Refusal::HashName.unless(!self.is_plain(full.len()))?;
         Refusal::HashName.unless(stored == hash_name(full).as_bytes())?;
         self.open_sealed_name(dir_id, &sealed, out)
+    }
+
+    /// Whether a full name of this length is stored as it is.
+    fn is_plain(&self, full_len: usize) -> bool {
+        full_len <= usize::from(self.threshold)
     }
 
     /// Rows 12 and 3, in this order.
@@ -127,6 +134,58 @@ mod tests {
                 Err(refusal) => panic!("{refusal:?}"),
             };
             assert_eq!((opened, &out[..len]), (Ok(len), &name[..]));
+        }
+    }
+
+    /// Each threshold, with full names of up to eight characters more and less.
+    #[test]
+    fn thresholds() {
+        for threshold in 36..=220 {
+            let vault = samples::vault_with(Combo::SivGcm, threshold);
+            let near = (1..=160).filter(|&len| full_len(len).abs_diff(threshold.into()) <= 8);
+            for len in near {
+                let (mut stored, mut full, mut out) = ([0; 220], [0; 1388], [0; 160]);
+                let written = vault.write_name(b"id", &vec![b'n'; len], &mut stored, &mut full);
+                if full_len(len) <= usize::from(threshold) {
+                    assert_eq!(written, Ok(WrittenName::Plain(full_len(len))));
+                    let plain = &stored[..full_len(len)];
+                    assert_eq!(vault.open_name(b"id", plain, &mut out), Ok(len));
+                    let hash = hash_name(plain);
+                    let opened = vault.open_long_name(b"id", hash.as_bytes(), plain, &mut out);
+                    assert_eq!(opened, Err(Refusal::HashName));
+                } else {
+                    let lengths = (32, full_len(len));
+                    let (hash, full) = (&stored[..lengths.0], &full[..lengths.1]);
+                    assert_eq!(
+                        written,
+                        Ok(WrittenName::Shortened {
+                            stored: lengths.0,
+                            full: lengths.1
+                        })
+                    );
+                    let opened = vault.open_long_name(b"id", hash, full, &mut out);
+                    assert_eq!(opened, Ok(len));
+                    let opened = vault.open_name(b"id", full, &mut out);
+                    assert_eq!(opened, Err(Refusal::Text));
+                }
+            }
+        }
+    }
+
+    /// Row 18 with a directory ID, name, text and room that are all wrong.
+    #[test]
+    fn no_threshold() {
+        for threshold in (0..36).chain(221..=255) {
+            let vault = samples::vault_with(Combo::SivGcm, threshold);
+            for (id, text) in [(&b"id"[..], &b"name"[..]), (&[255; 37], b"")] {
+                let refusals = [
+                    vault.write_name(id, text, &mut [], &mut []).err(),
+                    vault.open_name(id, text, &mut []).err(),
+                    vault.open_long_name(id, text, text, &mut []).err(),
+                ];
+                assert_eq!(refusals, [Some(Refusal::Threshold); 3]);
+            }
+            assert_eq!(vault.dir_path(b"id", &mut [0; 36]), Ok(36));
         }
     }
 

@@ -3,8 +3,9 @@
 /// Why a call wrote nothing, by the rows of the table.
 #[derive(Clone, Copy, Debug, PartialEq, Eq)]
 pub enum Refusal {
-    /// A key is not 32 bytes, a nonce is not as long as the combo's, there is
-    /// not one of these for each chunk, or a vault is not 65 bytes.
+    /// A key is not 32 bytes, a raw key not 64, a nonce is not as long as the
+    /// combo's, there is not one of these for each chunk, or a vault is not 66
+    /// bytes.
     KeyOrNonceSize,
     /// The directory ID has more than 36 bytes, or one of 128 or more.
     DirectoryId,
@@ -12,7 +13,8 @@ pub enum Refusal {
     Name,
     /// No file, header, chunk or wrapped key has this length.
     Length,
-    /// The text form of the name is broken, or too long for a plain one.
+    /// The text form of the name is broken, or longer than the threshold for a
+    /// plain one.
     Text,
     /// The range ends behind the cleartext.
     Range,
@@ -29,8 +31,19 @@ pub enum Refusal {
     HashName,
     /// The synthetic IV is not that of the name.
     SyntheticIv,
-    /// The number of the combo is neither that of SIV_GCM nor of SIV_CTRMAC.
+    /// The label is too long or no label, is nested too deep, or has not each
+    /// of its members once and of the right kind.
+    Label,
+    /// The label is not signed by HS256.
+    Alg,
+    /// The label's signature is wrong.
+    Signature,
+    /// The label is not of format 8.
+    Format,
+    /// The combo, by its number or name, is neither SIV_GCM nor SIV_CTRMAC.
     Combo,
+    /// The threshold is not 36 to 220.
+    Threshold,
     /// The check value of the wrapped key is wrong.
     CheckValue,
 }
@@ -50,7 +63,12 @@ impl Refusal {
             Refusal::Chunk(_) => 10,
             Refusal::HashName => 11,
             Refusal::SyntheticIv => 12,
+            Refusal::Label => 13,
+            Refusal::Alg => 14,
+            Refusal::Signature => 15,
+            Refusal::Format => 16,
             Refusal::Combo => 17,
+            Refusal::Threshold => 18,
             Refusal::CheckValue => 20,
         }
     }

@@ -5,7 +5,17 @@ use super::{Combo, Vault, CHUNK_LEN};
 pub const CONTENT_KEY: [u8; 32] = [4; 32];
 
 pub fn vault(combo: Combo) -> Vault {
-    Vault::new(&[1; 32], &[2; 32], combo).expect("two keys")
+    vault_with(combo, 220)
+}
+
+/// With any byte as its threshold.
+pub fn vault_with(combo: Combo, threshold: u8) -> Vault {
+    Vault {
+        enc: [1; 32],
+        mac: [2; 32],
+        combo,
+        threshold,
+    }
 }
 
 pub fn header_nonce(vault: &Vault) -> Vec<u8> {

@@ -3,9 +3,6 @@
 use crate::siv::IV_LEN;
 use crate::{base64url, sha1};
 
-/// The longest full name that is stored as it is.
-pub const MAX_PLAIN_LEN: usize = 220;
-
 /// The length of every hash name.
 pub const HASH_NAME_LEN: usize = 32;
 

@@ -30,7 +30,7 @@ impl Inputs {
     /// Fails unless `second` writes the plain file.
     pub fn check(&self) {
         let expected = plain::file(self);
-        let vault = Vault::new(&self.enc, &self.mac, Combo::SivCtrmac).expect("two keys");
+        let vault = Vault::new(&self.enc, &self.mac, Combo::SivCtrmac, 220).expect("two keys");
         let mut file = vec![0; expected.len()];
         let written = vault.write_file(
             &self.header_nonce,

@@ -1,21 +1,24 @@
-//! Each call of the library, in each combo, with an input that succeeds.
+//! Each call of the library, in each combo, with an input that succeeds; labels
+//! also with some that are refused.
 
+use super::labels;
 use super::measure::used;
 use skrapnefja::{
-    unwrap_key, wrap_key, Combo, Refusal, Vault, WrittenName, KEY_LEN, MAX_FULL_LEN, MAX_NAME_LEN,
-    MAX_STORED_LEN, VAULT_LEN, WRAPPED_KEY_LEN,
+    unwrap_key, wrap_key, Combo, Label, Refusal, Vault, WrittenName, KEY_LEN, MAX_FULL_LEN,
+    MAX_NAME_LEN, MAX_STORED_LEN, RAW_KEY_LEN, VAULT_LEN, WRAPPED_KEY_LEN,
 };
 
 const ENC: [u8; 32] = [1; 32];
 const MAC: [u8; 32] = [2; 32];
 const CONTENT_KEY: [u8; 32] = [3; 32];
+pub const RAW_KEY: [u8; RAW_KEY_LEN] = [4; RAW_KEY_LEN];
 const ID: &[u8] = b"e9250eb8-078d-4fc0-8835-be92a313360c";
 
 /// What no call may exceed.
 const MOST: usize = 8192;
 
 /// A call by its name, with what it used when it was done.
-type Depth = (&'static str, usize);
+pub type Depth = (&'static str, usize);
 
 pub fn run() {
     println!(
@@ -34,7 +37,7 @@ pub fn run() {
             print(name, depth);
         }
     }
-    for depth in key_depths() {
+    for depth in labels::depths().into_iter().chain(key_depths()) {
         print("", depth);
     }
     println!(
@@ -47,18 +50,30 @@ pub fn run() {
 }
 
 /// What a call used that must give this length.
-fn done(length: usize, mut call: impl FnMut() -> Result<usize, Refusal>) -> usize {
+fn done(length: usize, call: impl FnMut() -> Result<usize, Refusal>) -> usize {
+    ends(Ok(length), call)
+}
+
+/// What a call used that must end in this.
+pub fn ends(
+    end: Result<usize, Refusal>,
+    mut call: impl FnMut() -> Result<usize, Refusal>,
+) -> usize {
     let mut result = Ok(0);
     let bytes = used(|| result = call());
-    assert_eq!(result, Ok(length));
+    assert_eq!(result, end);
     bytes
 }
 
 fn depths(combo: Combo) -> Vec<Depth> {
+    let label = Label {
+        combo,
+        threshold: 220,
+    };
     let made = done(VAULT_LEN, || {
-        Vault::new(&ENC, &MAC, combo).map(|_| VAULT_LEN)
+        Vault::new(&ENC, &MAC, label).map(|_| VAULT_LEN)
     });
-    let vault = Vault::new(&ENC, &MAC, combo).expect("two keys");
+    let vault = Vault::new(&ENC, &MAC, label).expect("two keys");
     [
         vec![("make_vault", made)],
         header_depths(&vault, combo),

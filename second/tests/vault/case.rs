@@ -1,11 +1,12 @@
 //! Calls, each with all that is lent to it.
 
 use crate::fault::Fault::{self, *};
-use crate::format;
+use crate::format::{self, THRESHOLD_PLACE};
 use second::vault::Combo;
 
 #[derive(Clone, Copy, Debug, PartialEq, Eq)]
 pub enum Call {
+    OpenLabel,
     MakeVault,
     WriteHeader,
     OpenHeader,
@@ -25,7 +26,8 @@ pub enum Call {
 }
 
 impl Call {
-    pub const ALL: [Call; 16] = [
+    pub const ALL: [Call; 17] = [
+        Call::OpenLabel,
         Call::MakeVault,
         Call::WriteHeader,
         Call::OpenHeader,
@@ -46,7 +48,10 @@ impl Call {
 
     /// Whether a vault is lent to it, as its first input.
     pub fn takes_vault(self) -> bool {
-        !matches!(self, Call::MakeVault | Call::WrapKey | Call::UnwrapKey)
+        !matches!(
+            self,
+            Call::OpenLabel | Call::MakeVault | Call::WrapKey | Call::UnwrapKey
+        )
     }
 
     /// Whether it is on names or paths.
@@ -57,36 +62,26 @@ impl Call {
         )
     }
 
+    /// Whether it looks at the threshold of the vault that is lent to it.
+    pub fn is_by_threshold(self) -> bool {
+        self.is_on_names() && self != Call::DirPath
+    }
+
     /// The faults that the call looks for, in the order in which it does.
     pub fn faults(self) -> &'static [Fault] {
         match self {
-            Call::MakeVault => &[KeyOrNonceSize, Room, Combo],
+            Call::OpenLabel => OF_LABEL,
+            Call::MakeVault => &[KeyOrNonceSize, Room, Combo, Threshold],
             Call::WriteHeader => &[VaultSize, Combo, KeyOrNonceSize, Room],
             Call::OpenHeader => &[VaultSize, Combo, Length, Room, Header],
             Call::WriteChunk => &[VaultSize, Combo, KeyOrNonceSize, Length, Room],
             Call::OpenChunk => &[VaultSize, Combo, KeyOrNonceSize, Length, Room, Chunk],
-            Call::WriteFile => &[
-                VaultSize,
-                Combo,
-                KeyOrNonceSize,
-                Length,
-                Room,
-                RepeatedNonce,
-            ],
+            Call::WriteFile => OF_WRITTEN_FILE,
             Call::OpenFile => &[VaultSize, Combo, Length, Room, Header, Chunk],
             Call::ReadRange => &[VaultSize, Combo, Length, Range, Room, Header, Chunk],
-            Call::WriteName => &[VaultSize, Combo, DirectoryId, Name, Room],
-            Call::OpenName => &[VaultSize, Combo, DirectoryId, Text, Room, SyntheticIv, Name],
-            Call::OpenLongName => &[
-                VaultSize,
-                Combo,
-                DirectoryId,
-                Text,
-                Room,
-                HashName,
-                SyntheticIv,
-                Name,
-            ],
+            Call::WriteName => &[VaultSize, Threshold, Combo, DirectoryId, Name, Room],
+            Call::OpenName => OF_OPENED_NAME,
+            Call::OpenLongName => OF_OPENED_LONG_NAME,
             Call::DirPath => &[VaultSize, Combo, DirectoryId, Room],
             Call::FileLength | Call::CleartextLength => &[VaultSize, Combo, Length],
             Call::WrapKey => &[KeyOrNonceSize, Room],
@@ -94,6 +89,48 @@ impl Call {
         }
     }
 }
+
+const OF_LABEL: &[Fault] = &[
+    KeyOrNonceSize,
+    Label,
+    Alg,
+    Signature,
+    Format,
+    Combo,
+    Threshold,
+];
+
+const OF_WRITTEN_FILE: &[Fault] = &[
+    VaultSize,
+    Combo,
+    KeyOrNonceSize,
+    Length,
+    Room,
+    RepeatedNonce,
+];
+
+const OF_OPENED_NAME: &[Fault] = &[
+    VaultSize,
+    Threshold,
+    Combo,
+    DirectoryId,
+    Text,
+    Room,
+    SyntheticIv,
+    Name,
+];
+
+const OF_OPENED_LONG_NAME: &[Fault] = &[
+    VaultSize,
+    Threshold,
+    Combo,
+    DirectoryId,
+    Text,
+    Room,
+    HashName,
+    SyntheticIv,
+    Name,
+];
 
 /// Inputs, numbers and buffers are each in the order of the C boundary.
 #[derive(Clone, Debug)]
@@ -108,15 +145,30 @@ impl Case {
     /// The combo that is lent, in a vault or as a number.
     pub fn combo(&self) -> Option<Combo> {
         match self.call {
-            Call::MakeVault => Combo::of_number(self.combo_number()).ok(),
-            Call::WrapKey | Call::UnwrapKey => None,
+            Call::MakeVault => Combo::of_number(self.vault_numbers()[0]).ok(),
+            Call::OpenLabel | Call::WrapKey | Call::UnwrapKey => None,
             _ => format::combo_of(&self.inputs[0]),
         }
     }
 
-    /// What a vault is made with: the C boundary has 32 bits for it.
-    pub fn combo_number(&self) -> u32 {
-        self.numbers[0] as u32
+    /// The threshold of the vault that is lent.
+    pub fn threshold(&self) -> u8 {
+        self.inputs[0][THRESHOLD_PLACE]
+    }
+
+    /// The combo and the threshold that a vault is made with: the C boundary has
+    /// 32 bits for each.
+    pub fn vault_numbers(&self) -> [u32; 2] {
+        [self.numbers[0] as u32, self.numbers[1] as u32]
+    }
+
+    /// The two results before the call. Those of a label have 32 bits.
+    pub fn old_results(&self) -> [u64; 2] {
+        let old = [OLD_LENGTH, OLD_OTHER];
+        match self.call {
+            Call::OpenLabel => old.map(|result| u64::from(result as u32)),
+            _ => old,
+        }
     }
 }
 
@@ -125,16 +177,16 @@ impl Case {
 pub struct End {
     /// 0 for done.
     pub row: u32,
-    /// The length written.
+    /// The length written, or the combo of a label.
     pub length: u64,
-    /// The chunk's number, the length of the full name, or the header's reserved
-    /// bytes as a number.
+    /// The chunk's number, the length of the full name, the header's reserved
+    /// bytes as a number, or the threshold of a label.
     pub other: u64,
     pub buffers: Vec<Vec<u8>>,
 }
 
 /// The length before a call.
-pub const OLD_LENGTH: u64 = 0x0123_4567_89ab_cdef;
+const OLD_LENGTH: u64 = 0x0123_4567_89ab_cdef;
 
 /// The other number before a call.
-pub const OLD_OTHER: u64 = 0xfedc_ba98_7654_3210;
+const OLD_OTHER: u64 = 0xfedc_ba98_7654_3210;

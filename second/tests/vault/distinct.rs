@@ -16,7 +16,7 @@ pub const PARTS: &[Part] = &[("values of distinct inputs", Once(values))];
 const HASHES: [&str; 3] = ["hmac_32", "hmac_64", "sha256"];
 
 /// The other kinds of values, with their numbers.
-const KINDS: [(&str, usize); 10] = [
+const KINDS: [(&str, usize); 11] = [
     ("header", 1),
     ("reserved", 1),
     ("chunk", 2),
@@ -27,6 +27,7 @@ const KINDS: [(&str, usize); 10] = [
     ("sealed", 3),
     ("path", 2),
     ("wrapped", 1),
+    ("label", 1),
 ];
 
 fn values(compare: &mut Compare) {
@@ -64,6 +65,10 @@ fn value(compare: &mut Compare, fields: &[&str]) {
         }
         ["wrapped", wrapped] => {
             known::wrapped_key(compare, [enc(), content_key()], bytes(wrapped));
+        }
+        ["label", label] => {
+            let inputs = [(0x00..0x40).collect(), label.as_bytes().to_vec()];
+            known::label(compare, inputs, SivGcm, 220);
         }
         [kind, _] if HASHES.contains(&kind) => {}
         _ => {

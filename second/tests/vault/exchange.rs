@@ -2,7 +2,7 @@
 
 use crate::case::{Call, Case, End};
 use crate::compare::Compare;
-use crate::format::{LONGEST_NAME, LONGEST_PLAIN};
+use crate::format::{longest_plain, LONGEST_NAME};
 use crate::part::Part;
 use crate::part::Run::{Each, Once};
 use crate::{library, make, predict};
@@ -95,9 +95,10 @@ fn headers_and_chunks(compare: &mut Compare, combo: Combo) {
 fn names(compare: &mut Compare, combo: Combo) {
     for len in 1..=LONGEST_NAME {
         for (writer, reader) in WAYS {
-            let write = make::write_name(&mut compare.random, combo, len);
+            let threshold = make::threshold(&mut compare.random);
+            let write = make::write_name_at(&mut compare.random, combo, threshold, len);
             let mut texts = written(compare, writer, &write);
-            let call = if len > LONGEST_PLAIN {
+            let call = if len > longest_plain(threshold) {
                 Call::OpenLongName
             } else {
                 Call::OpenName

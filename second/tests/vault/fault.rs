@@ -2,6 +2,8 @@
 
 mod content;
 mod keys;
+mod labels;
+mod mutations;
 mod names;
 mod room;
 mod vaults;
@@ -9,14 +11,16 @@ mod vaults;
 use crate::case::Case;
 use crate::common::random::Random;
 
+pub use mutations::mutate;
 pub use names::stray;
 
 /// What can be wrong with what is lent, by the rows of the table. Row 1 is two
-/// of them: the size of a vault is looked at before its combo, and every other
-/// size after it.
+/// of them: the size of a vault is looked at before its threshold and its combo,
+/// and every other size after them.
 #[derive(Clone, Copy, Debug, PartialEq, Eq)]
 pub enum Fault {
     VaultSize,
+    Threshold,
     Combo,
     KeyOrNonceSize,
     DirectoryId,
@@ -30,6 +34,10 @@ pub enum Fault {
     Chunk,
     HashName,
     SyntheticIv,
+    Label,
+    Alg,
+    Signature,
+    Format,
     CheckValue,
 }
 
@@ -48,7 +56,12 @@ impl Fault {
             Fault::Chunk => 10,
             Fault::HashName => 11,
             Fault::SyntheticIv => 12,
+            Fault::Label => 13,
+            Fault::Alg => 14,
+            Fault::Signature => 15,
+            Fault::Format => 16,
             Fault::Combo => 17,
+            Fault::Threshold => 18,
             Fault::CheckValue => 20,
         }
     }
@@ -61,6 +74,7 @@ pub fn spoil(case: &mut Case, fault: Fault, random: &mut Random) -> bool {
     match fault {
         Fault::VaultSize => vaults::size(case, random),
         Fault::Combo => vaults::combo(case, random),
+        Fault::Threshold => vaults::threshold(case, random),
         Fault::KeyOrNonceSize => keys::key_or_nonce_size(case, random),
         Fault::DirectoryId => names::directory_id(case, random),
         Fault::Name => names::name(case, random),
@@ -73,6 +87,10 @@ pub fn spoil(case: &mut Case, fault: Fault, random: &mut Random) -> bool {
         Fault::Chunk => return content::chunk(case, random),
         Fault::HashName => names::hash_name(case, random),
         Fault::SyntheticIv => return names::synthetic_iv(case, random),
+        Fault::Label => labels::label(case, random),
+        Fault::Alg => labels::alg(case, random),
+        Fault::Signature => labels::signature(case, random),
+        Fault::Format => labels::format(case, random),
         Fault::CheckValue => keys::check_value(case, random),
     }
     true

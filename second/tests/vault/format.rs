@@ -1,9 +1,17 @@
 //! Sizes, as the format has them.
 
 use second::vault::{Combo, CHUNK_LEN};
+use std::ops::RangeInclusive;
 
-pub const VAULT: usize = 65;
+pub const VAULT: usize = 66;
+/// Where a vault has the number of its combo, and where its threshold.
+pub const COMBO_PLACE: usize = 64;
+pub const THRESHOLD_PLACE: usize = 65;
+pub const THRESHOLDS: RangeInclusive<u8> = 36..=220;
+pub const RAW_KEY: usize = 64;
+pub const LONGEST_LABEL: usize = 4096;
 pub const LONGEST_CLEARTEXT: usize = 16_777_216;
+/// The longest name that is stored as it is where the threshold is the largest.
 pub const LONGEST_PLAIN: usize = 146;
 pub const LONGEST_NAME: usize = 1020;
 pub const LONGEST_FULL_NAME: usize = 1388;
@@ -63,8 +71,18 @@ pub fn other(combo: Combo) -> Combo {
 /// The combo of bytes that are a vault.
 pub fn combo_of(vault: &[u8]) -> Option<Combo> {
     match vault {
-        [.., 1] if vault.len() == VAULT => Some(Combo::SivGcm),
-        [.., 2] if vault.len() == VAULT => Some(Combo::SivCtrmac),
+        [.., 1, _] if vault.len() == VAULT => Some(Combo::SivGcm),
+        [.., 2, _] if vault.len() == VAULT => Some(Combo::SivCtrmac),
         _ => None,
     }
+}
+
+/// The length of the full name of a name of this length.
+pub fn full_len(name: usize) -> usize {
+    (16 + name).div_ceil(3) * 4 + 4
+}
+
+/// The longest name whose full name is not longer than the threshold.
+pub fn longest_plain(threshold: u8) -> usize {
+    (usize::from(threshold) - 4) / 4 * 3 - 16
 }

@@ -2,6 +2,7 @@
 
 use crate::case::{Call, Case};
 use crate::compare::Compare;
+use second::vault::Combo;
 
 /// The header of a vault, a nonce and a content key.
 pub fn header(compare: &mut Compare, inputs: [Vec<u8>; 3], header: Vec<u8>) {
@@ -75,6 +76,18 @@ pub fn wrapped_key(compare: &mut Compare, inputs: [Vec<u8>; 2], wrapped: Vec<u8>
     fills(compare, Call::WrapKey, &inputs, &[], &[&wrapped]);
     let [kek, key] = inputs;
     fills(compare, Call::UnwrapKey, &[kek, wrapped], &[], &[&key]);
+}
+
+/// The combo and the threshold of a label, by a raw key.
+pub fn label(compare: &mut Compare, inputs: [Vec<u8>; 2], combo: Combo, threshold: u64) {
+    let end = compare.end(&Case {
+        call: Call::OpenLabel,
+        inputs: inputs.to_vec(),
+        numbers: vec![],
+        buffers: vec![],
+    });
+    let combo = u64::from(combo.number());
+    assert_eq!((end.row, end.length, end.other), (0, combo, threshold));
 }
 
 /// Fails unless the call fills buffers of their sizes with these answers.

@@ -1,6 +1,6 @@
 //! Calls of the static library.
 
-use crate::case::{Call, Case, End, OLD_LENGTH, OLD_OTHER};
+use crate::case::{Call, Case, End};
 use skrapnefja::call;
 
 /// Bytes before and after every slice that no call may change. The number is
@@ -9,12 +9,14 @@ const GUARD: [u8; 17] = *b"outside of buffer";
 
 /// The same for results.
 const GUARD_WORD: u64 = 0x6f75_7473_6964_6521;
+const GUARD_HALF: u32 = 0x6f75_7421;
 
 /// Makes the call on copies with guards around them.
 pub fn end(case: &Case) -> End {
     let mut inputs: Vec<_> = case.inputs.iter().map(|slice| guarded(slice)).collect();
     let mut buffers: Vec<_> = case.buffers.iter().map(|slice| guarded(slice)).collect();
-    let mut results = [GUARD_WORD, OLD_LENGTH, GUARD_WORD, OLD_OTHER, GUARD_WORD];
+    let [length, other] = case.old_results();
+    let mut results = [GUARD_WORD, length, GUARD_WORD, other, GUARD_WORD];
     let [before, length, between, other, after] = &mut results;
     let row = run(
         case,
@@ -73,6 +75,7 @@ struct Lent<'a, 'b> {
 fn run(case: &Case, lent: Lent) -> u32 {
     match case.call {
         call if call.is_on_names() => names(call, lent),
+        Call::OpenLabel => label(lent),
         Call::MakeVault | Call::WrapKey | Call::UnwrapKey => keys(case, lent),
         Call::FileLength | Call::CleartextLength => lengths(case, lent),
         _ => content(case, lent),
@@ -165,9 +168,10 @@ fn keys(case: &Case, lent: Lent) -> u32 {
     // SAFETY: as for content.
     unsafe {
         match (case.call, lent.inputs, &case.numbers[..], lent.buffers) {
-            (Call::MakeVault, [enc, mac], [_], [out]) => {
-                let combo = case.combo_number();
-                call!(skrapnefja_make_vault: in enc, in mac, val combo, out out, val length,)
+            (Call::MakeVault, [enc, mac], [_, _], [out]) => {
+                let [combo, threshold] = case.vault_numbers();
+                call!(skrapnefja_make_vault:
+                    in enc, in mac, val combo, val threshold, out out, val length,)
             }
             (Call::WrapKey, [kek, key], [], [out]) => {
                 call!(skrapnefja_wrap_key: in kek, in key, out out, val length,)
@@ -178,4 +182,21 @@ fn keys(case: &Case, lent: Lent) -> u32 {
             _ => panic!("not what {:?} takes", case.call),
         }
     }
+}
+
+/// Its two results have 32 bits each.
+fn label(lent: Lent) -> u32 {
+    let [raw_key, label] = lent.inputs else {
+        panic!("not what a label is opened with");
+    };
+    let [combo, threshold] = [*lent.length, *lent.other].map(|old| old as u32);
+    let mut results = [GUARD_HALF, combo, GUARD_HALF, threshold, GUARD_HALF];
+    let [before, combo, between, threshold, after] = &mut results;
+    // SAFETY: as for content.
+    let row =
+        unsafe { call!(skrapnefja_open_label: in raw_key, in label, val combo, val threshold,) };
+    assert_eq!([*before, *between, *after], [GUARD_HALF; 3]);
+    *lent.length = (*combo).into();
+    *lent.other = (*threshold).into();
+    row
 }

@@ -13,6 +13,7 @@
 #[path = "../common"]
 mod common {
     pub mod fields;
+    pub mod labels;
     pub mod random;
     pub mod text;
 }
@@ -30,6 +31,7 @@ mod format;
 mod headers;
 mod keys;
 mod known;
+mod labels;
 mod lengths;
 mod library;
 mod longest;
@@ -46,6 +48,7 @@ mod ranges;
 mod stock_program;
 mod tally;
 mod texts;
+mod thresholds;
 mod vaults;
 
 use compare::Compare;
@@ -58,7 +61,7 @@ use std::time::Instant;
 use std::{env, panic, thread};
 use tally::Tally;
 
-const PARTS: [&[Part]; 19] = [
+const PARTS: [&[Part]; 20] = [
     longest::PARTS,
     files::PARTS,
     file_damage::PARTS,
@@ -71,6 +74,7 @@ const PARTS: [&[Part]; 19] = [
     exchange::PARTS,
     headers::PARTS,
     vaults::PARTS,
+    thresholds::PARTS,
     other_combo::PARTS,
     counters::PARTS,
     keys::PARTS,
@@ -92,7 +96,8 @@ fn main() -> ExitCode {
         .filter(|arg| !arg.starts_with('-'))
         .collect();
     let wanted = |name: &str| filters.is_empty() || filters.iter().any(|part| name.contains(part));
-    let mut jobs: Vec<_> = PARTS.concat().into_iter().flat_map(part::jobs).collect();
+    let parts = [PARTS.concat(), labels::PARTS.concat()].concat();
+    let mut jobs: Vec<_> = parts.into_iter().flat_map(part::jobs).collect();
     jobs.retain(|job| wanted(&job.name));
     println!("SEED={seed} FIRST={first} CALLS={calls}");
 

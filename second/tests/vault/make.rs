@@ -1,7 +1,9 @@
 //! Cases in which no row applies.
 
 mod content;
+mod json;
 mod keys;
+mod labels;
 mod names;
 mod nonces;
 mod sizes;
@@ -9,11 +11,13 @@ mod vaults;
 
 use crate::case::{Call, Case};
 use crate::common::random::Random;
-use crate::format::{self, LONGEST_CLEARTEXT, LONGEST_PLAIN};
+use crate::format::{self, longest_plain, LONGEST_CLEARTEXT};
 use second::vault::Combo;
 
 pub use content::*;
+pub use json::*;
 pub use keys::*;
+pub use labels::*;
 pub use names::*;
 pub use nonces::*;
 use sizes::{chunk_len, file_len, name_len, range};
@@ -21,6 +25,7 @@ pub use vaults::*;
 
 pub fn case(call: Call, random: &mut Random, combo: Combo) -> Case {
     match call {
+        Call::OpenLabel => open_label(random, combo),
         Call::MakeVault => make_vault(random, combo),
         Call::WriteHeader => write_header(random, combo),
         Call::OpenHeader => open_header(random, combo),
@@ -54,18 +59,23 @@ pub fn case(call: Call, random: &mut Random, combo: Combo) -> Case {
 }
 
 fn on_name(call: Call, random: &mut Random, combo: Combo) -> Case {
+    let threshold = threshold(random);
+    let plain = longest_plain(threshold);
     match call {
         Call::OpenName => {
-            let len = 1 + random.below(LONGEST_PLAIN);
-            open_name(random, combo, len)
+            let len = 1 + random.below(plain);
+            open_name_at(random, combo, threshold, len)
         }
         Call::OpenLongName => {
-            let len = name_len(random, LONGEST_PLAIN + 1);
-            open_long_name(random, combo, len)
+            let len = name_len(random, plain + 1);
+            open_long_name_at(random, combo, threshold, len)
         }
         _ => {
-            let len = name_len(random, 1);
-            write_name(random, combo, len)
+            let len = match random.below(3) {
+                0 => plain - 1 + random.below(4),
+                _ => name_len(random, 1),
+            };
+            write_name_at(random, combo, threshold, len)
         }
     }
 }

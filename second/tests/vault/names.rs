@@ -2,7 +2,7 @@
 
 use crate::case::{Call, Case, End};
 use crate::compare::Compare;
-use crate::fault::{resize, spoil};
+use crate::fault::{resize, spoil, Fault};
 use crate::format::LONGEST_NAME;
 use crate::make;
 use crate::part::Part;
@@ -112,7 +112,9 @@ fn buffers(compare: &mut Compare, combo: Combo) {
 /// What is written, opened or refused does not go by the combo.
 fn either_combo(compare: &mut Compare) {
     for call in Call::ALL.into_iter().filter(|call| call.is_on_names()) {
-        for &fault in &call.faults()[2..] {
+        let of_vault = [Fault::VaultSize, Fault::Combo];
+        let faults = call.faults().iter();
+        for &fault in faults.filter(|fault| !of_vault.contains(fault)) {
             for is_spoiled in [true, false].repeat(50) {
                 let mut case = make::case(call, &mut compare.random, Combo::SivGcm);
                 if is_spoiled {

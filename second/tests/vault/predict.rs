@@ -1,14 +1,15 @@
 //! What a call must do, according to `second`.
 
-use crate::case::{Call, Case, End, OLD_LENGTH, OLD_OTHER};
+use crate::case::{Call, Case, End};
 use second::vault::{self, Refusal, Vault, WrittenName};
 
 pub fn end(case: &Case) -> End {
     let mut buffers = case.buffers.clone();
+    let [old_length, old_other] = case.old_results();
     let (row, length, other) = match run(case, &mut buffers) {
-        Ok((length, other)) => (0, length, other.unwrap_or(OLD_OTHER)),
-        Err(Refusal::Chunk(number)) => (10, OLD_LENGTH, number),
-        Err(refusal) => (refusal.row(), OLD_LENGTH, OLD_OTHER),
+        Ok((length, other)) => (0, length, other.unwrap_or(old_other)),
+        Err(Refusal::Chunk(number)) => (10, old_length, number),
+        Err(refusal) => (refusal.row(), old_length, old_other),
     };
     End {
         row,
@@ -23,13 +24,22 @@ type Answer = Result<(u64, Option<u64>), Refusal>;
 
 fn run(case: &Case, buffers: &mut [Vec<u8>]) -> Answer {
     let length = match (case.call, &case.inputs[..], &case.numbers[..], buffers) {
-        (Call::MakeVault, [enc, mac], [_], [out]) => {
-            vault::make_vault(enc, mac, case.combo_number(), out)
+        (Call::OpenLabel, [raw_key, label], [], []) => {
+            let (combo, threshold) = vault::open_label(raw_key, label)?;
+            return Ok((combo.number().into(), Some(threshold.into())));
+        }
+        (Call::MakeVault, [enc, mac], [_, _], [out]) => {
+            let [combo, threshold] = case.vault_numbers();
+            vault::make_vault(enc, mac, combo, threshold, out)
         }
         (Call::WrapKey, [kek, key], [], [out]) => vault::wrap_key(kek, key, out),
         (Call::UnwrapKey, [kek, wrapped], [], [out]) => vault::unwrap_key(kek, wrapped, out),
         (call, [vault, inputs @ ..], numbers, buffers) => {
-            let vault = Vault::from_bytes(vault)?;
+            let vault = if call.is_by_threshold() {
+                Vault::for_names(vault)?
+            } else {
+                Vault::from_bytes(vault)?
+            };
             return match call {
                 Call::FileLength => Ok((vault.file_length(numbers[0])?, None)),
                 Call::CleartextLength => Ok((vault.cleartext_length(numbers[0])?, None)),

@@ -4,7 +4,8 @@
 use crate::case::{Call, Case};
 use crate::common::random::Random;
 use crate::compare::Compare;
-use crate::fault::{flip, resize, spoil, Fault};
+use crate::fault::{flip, mutate, resize, spoil, Fault};
+use crate::format::{COMBO_PLACE, THRESHOLD_PLACE};
 use crate::tally::Tally;
 use crate::{make, report, threads};
 use second::vault::Combo;
@@ -96,10 +97,17 @@ fn random_case(call: Call, combo: Combo, random: &mut Random) -> Case {
             change(&mut case, random);
         }
     }
+    if call == Call::OpenLabel && random.below(3) == 0 {
+        mutate(&mut case, random);
+    }
     if call.takes_vault() && random.below(20) == 0 {
-        let vault = &mut case.inputs[0];
-        vault.pop();
-        vault.push(random.below(4) as u8);
+        let (place, byte) = match random.below(2) {
+            0 => (COMBO_PLACE, random.below(4)),
+            _ => (THRESHOLD_PLACE, random.below(256)),
+        };
+        if let Some(old) = case.inputs[0].get_mut(place) {
+            *old = byte as u8;
+        }
     }
     case
 }

@@ -7,7 +7,9 @@ use second::vault::Combo;
 use std::fmt::{self, Display, Formatter};
 
 /// The ends by their row, with 0 for done.
-const ENDS: [u32; 15] = [0, 1, 2, 3, 4, 5, 6, 7, 8, 9, 10, 11, 12, 17, 20];
+const ENDS: [u32; 20] = [
+    0, 1, 2, 3, 4, 5, 6, 7, 8, 9, 10, 11, 12, 13, 14, 15, 16, 17, 18, 20,
+];
 
 /// The column after theirs: done with a shortened name.
 const SHORTENED: usize = ENDS.len();
@@ -28,7 +30,7 @@ impl Tally {
             let place = ENDS.iter().position(|&row| row == end.row);
             place.unwrap_or_else(|| panic!("there is no row {}", end.row))
         };
-        let line = LINES.iter().position(|&combo| combo == case.combo());
+        let line = LINES.iter().position(|&line| line == combo(case, end));
         self.0[case.call as usize][line.expect("there are three")][column] += 1;
     }
 
@@ -70,6 +72,14 @@ impl Tally {
     }
 }
 
+/// The combo that was lent, or that a label has.
+fn combo(case: &Case, end: &End) -> Option<Combo> {
+    match (case.call, end.row) {
+        (Call::OpenLabel, 0) => Combo::of_number(end.length as u32).ok(),
+        _ => case.combo(),
+    }
+}
+
 fn is_possible(call: Call, combo: Option<Combo>, column: usize) -> bool {
     let succeeds = match call {
         Call::WrapKey | Call::UnwrapKey => combo.is_none(),
@@ -86,12 +96,15 @@ fn is_possible(call: Call, combo: Option<Combo>, column: usize) -> bool {
 }
 
 /// Whether a fault that the call looks for can be the first: a vault that is
-/// none keeps it from all others.
+/// none keeps it from all others, but that a threshold comes before the combo
+/// where one is lent, and behind it where one is made.
 fn is_found(call: Call, combo: Option<Combo>, fault: Fault) -> bool {
     let of_vault = matches!(fault, Fault::VaultSize | Fault::Combo);
-    match call {
-        Call::WrapKey | Call::UnwrapKey => combo.is_none(),
-        Call::MakeVault => combo.is_none() || !of_vault,
+    match (call, fault) {
+        (Call::OpenLabel | Call::WrapKey | Call::UnwrapKey, _) => combo.is_none(),
+        (Call::MakeVault, Fault::Threshold) => combo.is_some(),
+        (Call::MakeVault, _) => combo.is_none() || !of_vault,
+        (_, Fault::Threshold) => true,
         _ => combo.is_none() == of_vault,
     }
 }

@@ -3,7 +3,7 @@
 use crate::case::{Call, Case};
 use crate::compare::Compare;
 use crate::fault::resize;
-use crate::format::{self, VAULT};
+use crate::format::{self, COMBO_PLACE, VAULT};
 use crate::make;
 use crate::part::Part;
 use crate::part::Run::{Each, Once};
@@ -18,13 +18,14 @@ pub const PARTS: &[Part] = &[
     ("vaults: every bit of the keys", Each(bits)),
 ];
 
-/// The encryption key, the MAC key and the number.
+/// The encryption key, the MAC key, the combo's number and the threshold.
 fn made(compare: &mut Compare, combo: Combo) {
     for _ in 0..100 {
         let case = make::make_vault(&mut compare.random, combo);
         let end = compare.end(&case);
-        assert_eq!((end.row, end.length), (0, 65));
+        assert_eq!((end.row, end.length), (0, 66));
         let vault = make::vault_of(&case.inputs[0], &case.inputs[1], combo);
+        let vault = make::with_threshold(&vault, case.numbers[1] as u8);
         assert_eq!(end.buffers[0][..VAULT], vault);
         assert_eq!(end.buffers[0][VAULT..], case.buffers[0][VAULT..]);
     }
@@ -56,7 +57,7 @@ fn numbers(compare: &mut Compare) {
     let case = make::make_vault(&mut compare.random, Combo::SivGcm);
     for number in (0..1000).chain(powers).chain(largest) {
         let mut case = case.clone();
-        case.numbers = vec![u64::from(number)];
+        case.numbers[0] = u64::from(number);
         let row = if matches!(number, 1 | 2) { 0 } else { 17 };
         assert_eq!(compare.row(&case), row);
     }
@@ -88,7 +89,7 @@ fn each_call(compare: &mut Compare, combo: Combo) -> Vec<Case> {
 
 fn lent_sizes(compare: &mut Compare, combo: Combo) {
     for case in each_call(compare, combo) {
-        for len in (0..=200).chain([1000, 65 * 256, 65_536 + 65]) {
+        for len in (0..=200).chain([1000, 66 * 256, 65_536 + 66]) {
             let mut sized = case.clone();
             resize(&mut sized.inputs[0], len, &mut compare.random);
             let row = compare.row(&sized);
@@ -101,7 +102,7 @@ fn lent_combos(compare: &mut Compare, combo: Combo) {
     for case in each_call(compare, combo) {
         for byte in 0..=255 {
             let mut other = case.clone();
-            other.inputs[0][VAULT - 1] = byte;
+            other.inputs[0][COMBO_PLACE] = byte;
             let row = compare.row(&other);
             match format::combo_of(&other.inputs[0]) {
                 None => assert_eq!(row, 17, "{:?}", case.call),

@@ -8,6 +8,7 @@ use borrow.Author.Tests.{lt-ltb, le-ltb}
 use lib.ListN.{length, take, drop, length-drop}
 use lib.Seq.{length-take-le}
 use Rattle.octets.proofs.Lists.{part-rest}
+use Rattle.threshold.specs.Threshold.{thresholdRight}
 use Rattle.frame.specs.Frame.{openFile}
 use Rattle.frame.proofs.KeySizes.{keys-exactly}
 use Rattle.vault.specs.declared.record.Combo.the-variants.{SivGcm}
@@ -23,13 +24,14 @@ use Rattle.check_line.proofs.check_vault.Tie as tie
 -- the record of the first 64 bytes
 under : (c : tie.After-make-vault) →
     let x = c .before .before .before .before .before .before .before .before .args in
-    c .make-vault .result .vault ≡ vaultWith (take 32 (x .input .now)) (take 32 (drop 32 (x .input .now))) SivGcm
+    c .make-vault .result .vault ≡ vaultWith (take 32 (x .input .now)) (take 32 (drop 32 (x .input .now))) SivGcm 220
+unfolding thresholdRight
 under c =
     let l = c .before .before .before .before .before .before .before .before .args .input .now in
     let h = c .before .before .before .before .before .if1 .left in
     let e = length-take-le 32 l (omega (arith, h)) in
     let m = length-take-le 32 (drop 32 l) (omega (arith, length-drop 32 l, h)) in
-    ap (λ (r : Making). r .vault) (c .make-vault .ensures ∙ sym (made (take 32 l) (take 32 (drop 32 l)) SivGcm (keys-exactly (take 32 l) (take 32 (drop 32 l)) .1 (e, m))))
+    ap (λ (r : Making). r .vault) (c .make-vault .ensures ∙ sym (made (take 32 l) (take 32 (drop 32 l)) SivGcm 220 (keys-exactly (take 32 l) (take 32 (drop 32 l)) .1 (e, m)) refl))
 
 returns : tie.Need-returns
 unfolding checkVault

@@ -27,15 +27,15 @@ abbrev μ-loop : tie.MeasureT-loop
 loop-holds : tie.Need-loop-holds Inv-loop μ-loop
 loop-holds c = (omega arith, refl)
 
-character-requires : tie.Need-character-requires Inv-loop μ-loop
-character-requires c κs = search needs
+proper-size-requires : tie.Need-proper-size-requires Inv-loop μ-loop
+proper-size-requires c κs = search needs
 
 returns : tie.Need-returns Inv-loop μ-loop
-returns c = let l = c .before .before .before .loop in sym (l .inv .1 ∙ c .before .character .ensures .0 (omega arith))
+returns c = let l = c .before .before .before .loop in sym (l .inv .1 ∙ c .before .proper-size .ensures .0 (omega arith))
 
 -- The character is inside.
-inside : (c : tie.Else1 Inv-loop μ-loop) → c .before .before .before .loop .i + c .before .character .result ≤ length (c .before .before .before .before .before .args .s .now)
-inside c = c .before .character .ensures .1 (omega arith) .0
+inside : (c : tie.Else1 Inv-loop μ-loop) → c .before .before .before .loop .i + c .before .proper-size .result ≤ length (c .before .before .before .before .before .args .s .now)
+inside c = c .before .proper-size .ensures .1 (omega arith) .0
 
 add-i : tie.Need-add-i Inv-loop μ-loop
 add-i c = let h = inside c in search needs
@@ -44,7 +44,7 @@ loop-less : tie.Need-loop-less Inv-loop μ-loop
 loop-less c = let h = inside c in omega arith
 
 loop-again : tie.Need-loop-again Inv-loop μ-loop
-loop-again c = let l = c .before .before .before .loop in (inside c, l .inv .1 ∙ c .before .character .ensures .1 (omega arith) .1)
+loop-again c = let l = c .before .before .before .loop in (inside c, l .inv .1 ∙ c .before .proper-size .ensures .1 (omega arith) .1)
 
 returns-2 : tie.Need-returns-2 Inv-loop μ-loop
 returns-2 c = let l = c .before .loop in sym (l .inv .1 ∙ over (c .before .before .before .args .s .now) (l .i) (omega arith))
@@ -56,7 +56,7 @@ proper-text-spec =
     Inv-loop
     μ-loop
     loop-holds
-    character-requires
+    proper-size-requires
     returns
     add-i
     loop-less

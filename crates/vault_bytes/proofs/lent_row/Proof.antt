@@ -1,8 +1,6 @@
 -- `lent_row`: the tests in the definition's order.
 -- Assumes nothing.
-use Prim.Native.Nat.{ℕ}
 use mathlib.Core.Path.{_≡_, sym, ap, _∙_}
-use mathlib.Core.Bool.{Bool}
 use borrow.Author.Tests.{eq-eqb, ne-eqb}
 use lib.ListN.{getD}
 use Rattle.vault_bytes.specs.VaultBytes.{comboKnown, lentRow}

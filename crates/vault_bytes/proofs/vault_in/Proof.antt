@@ -1,15 +1,15 @@
--- `vault_in`: the two keys and the combo, each from its place.
+-- `vault_in`: the two keys, the combo and the threshold, each from its place.
 -- Assumes nothing.
 use Prim.Native.Nat.{ℕ, _-_}
-use mathlib.Core.Path.{_≡_, sym, ap, ap₂, _∙_}
+use mathlib.Core.Path.{sym, ap, ap₂, _∙_}
 use mathlib.Core.List.{List}
 use native.Mathlib.Omega.{arith}
-use lib.ListN.{length, take, drop, getD, replicate, length-drop}
+use lib.ListN.{take, drop, getD, replicate, length-drop}
 use lib.Seq.{length-take-le}
 use Rattle.octets.proofs.Lists.{placed-all}
 use Rattle.vault.specs.declared.record.Combo.{Combo}
 use Rattle.vault.specs.Vault.{vaultWith}
-use Rattle.vault_bytes.specs.VaultBytes.{comboOf, vaultIn}
+use Rattle.vault_bytes.specs.VaultBytes.{thresholdPlace, comboOf, vaultIn}
 use borrow.Author.Needs.{needs}
 use Rattle.vault_bytes.proofs.vault_in.Statement.{statement}
 use Rattle.vault_bytes.proofs.vault_in.Tie as tie
@@ -53,15 +53,19 @@ wide-requires c κs = search needs
 combo-of-requires : tie.Need-combo-of-requires
 combo-of-requires c κs = search needs
 
+shared-slice-read-threshold : tie.Need-shared-slice-read-threshold
+shared-slice-read-threshold c = search needs
+
 returns : tie.Need-returns
 unfolding vaultIn
 returns c =
-    let i = c .before .before .before .before .before .before .before .before .before .before .before .before in
+    let i = c .before .before .before .before .before .before .before .before .before .before .before .before .before in
     let b = i .args .bytes .now in
-    let e = c .before .before .before .before .before .before .before .before .copy-at .ensures ∙ placed-all (take 32 b) (replicate 32 0) (sym (length-take-le 32 b (omega (arith, i .pre)))) in
-    let m = c .before .before .before .before .copy-at2 .ensures ∙ placed-all (take 32 (drop 32 b)) (replicate 32 0) (sym (length-take-le 32 (drop 32 b) (omega (arith, length-drop 32 b, i .pre)))) in
-    let k = c .combo-of .ensures ∙ ap comboOf (c .before .wide .ensures) in
-    ap₂ (λ (x y : List ℕ). vaultWith x y (c .combo-of .result)) e m ∙ ap (vaultWith (take 32 b) (take 32 (drop 32 b))) k
+    let e = c .before .before .before .before .before .before .before .before .before .copy-at .ensures ∙ placed-all (take 32 b) (replicate 32 0) (sym (length-take-le 32 b (omega (arith, i .pre)))) in
+    let m = c .before .before .before .before .before .copy-at2 .ensures ∙ placed-all (take 32 (drop 32 b)) (replicate 32 0) (sym (length-take-le 32 (drop 32 b) (omega (arith, length-drop 32 b, i .pre)))) in
+    let k = c .before .combo-of .ensures ∙ ap comboOf (c .before .before .wide .ensures) in
+    let t = getD b thresholdPlace 0 in
+    ap₂ (λ (x y : List ℕ). vaultWith x y (c .before .combo-of .result) t) e m ∙ ap (λ (x : Combo). vaultWith (take 32 b) (take 32 (drop 32 b)) x t) k
 
 pub vault-in-spec : {M : Type 1} → statement M
 vault-in-spec =
@@ -80,4 +84,5 @@ vault-in-spec =
     shared-slice-read-wide
     wide-requires
     combo-of-requires
+    shared-slice-read-threshold
     returns)

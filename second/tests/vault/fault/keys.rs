@@ -10,7 +10,7 @@ use second::key_wrap::INITIAL_VALUE;
 pub fn key_or_nonce_size(case: &mut Case, random: &mut Random) {
     let inputs = match case.call {
         Call::MakeVault | Call::WrapKey => 0..2,
-        Call::UnwrapKey => 0..1,
+        Call::OpenLabel | Call::UnwrapKey => 0..1,
         Call::WriteHeader | Call::OpenChunk => 1..3,
         Call::WriteChunk | Call::WriteFile => 1..4,
         call => panic!("{call:?} is lent no key and no nonce"),

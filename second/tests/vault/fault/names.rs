@@ -4,7 +4,7 @@ use super::{flip, resize};
 use crate::case::{Call, Case};
 use crate::common::random::Random;
 use crate::common::text::{is_text, random_text};
-use crate::format::{LONGEST_NAME, LONGEST_PLAIN};
+use crate::format::{longest_plain, LONGEST_NAME};
 use crate::make::{self, full_name};
 use second::base64url;
 
@@ -55,6 +55,7 @@ pub fn stray(name: &mut [u8], random: &mut Random) {
 /// Breaks the text form. That of a plain name can also be too long.
 pub fn text(case: &mut Case, random: &mut Random) {
     let call = case.call;
+    let plain = longest_plain(case.threshold());
     let text = case.inputs.last_mut().expect("a text");
     let place = random.below(text.len());
     match random.below(7) {
@@ -71,7 +72,7 @@ pub fn text(case: &mut Case, random: &mut Random) {
             *text = full_name(&random.bytes(len));
         }
         _ if call == Call::OpenName => {
-            let len = LONGEST_PLAIN + 17 + random.below(LONGEST_NAME - LONGEST_PLAIN);
+            let len = plain + 17 + random.below(LONGEST_NAME - plain);
             *text = full_name(&random.bytes(len));
         }
         _ => spare_bits(text, random),
@@ -97,9 +98,10 @@ pub fn hash_name(case: &mut Case, random: &mut Random) {
         }
         2 => case.inputs[2][31] = b'r',
         _ => {
-            let len = 1 + random.below(LONGEST_PLAIN);
+            let threshold = case.threshold();
+            let len = 1 + random.below(longest_plain(threshold));
             let combo = case.combo().expect("a vault");
-            let other = make::open_long_name(random, combo, len);
+            let other = make::open_long_name_at(random, combo, threshold, len);
             case.inputs = other.inputs;
             case.buffers = other.buffers;
         }

@@ -2,7 +2,7 @@
 
 use crate::case::{Call, Case};
 use crate::common::random::Random;
-use crate::format::{sizes, VAULT, WRAPPED_KEY};
+use crate::format::{full_len, sizes, VAULT, WRAPPED_KEY};
 use crate::make;
 
 /// Makes a buffer too short for what goes into it.
@@ -35,14 +35,14 @@ fn needs(case: &Case) -> Vec<usize> {
         Call::WriteFile => vec![sizes().file(input(4))],
         Call::OpenFile => vec![make::cleartext_len(case)],
         Call::ReadRange => vec![case.numbers[1] as usize],
-        Call::WriteName => match (16 + input(2)).div_ceil(3) * 4 + 4 {
-            full @ 0..=220 => vec![full, 0],
+        Call::WriteName => match full_len(input(2)) {
+            full if full <= case.threshold().into() => vec![full, 0],
             full => vec![32, full],
         },
         Call::OpenName => vec![name(&case.inputs[2])],
         Call::OpenLongName => vec![name(&case.inputs[3])],
         Call::DirPath => vec![36],
-        Call::FileLength | Call::CleartextLength => vec![],
+        Call::OpenLabel | Call::FileLength | Call::CleartextLength => vec![],
         Call::WrapKey => vec![WRAPPED_KEY],
     }
 }

@@ -1,21 +1,31 @@
 //! Names and paths.
 
-use super::{buffer, master_keys, vault, with_room};
+use super::{buffer, master_keys, vault, vault_at, with_room};
 use crate::case::{Call, Case};
 use crate::common::random::Random;
 use crate::common::text::random_text;
-use crate::format::LONGEST_FULL_NAME;
+use crate::format::{full_len, LONGEST_FULL_NAME, THRESHOLDS};
 use second::vault::{Combo, Vault, WrittenName};
 use second::{base64url, sha1, siv};
 
+/// The largest threshold, where no other is asked for.
+const LARGEST: u8 = *THRESHOLDS.end();
+
 pub fn write_name(random: &mut Random, combo: Combo, len: usize) -> Case {
+    write_name_at(random, combo, LARGEST, len)
+}
+
+/// In a vault with this threshold.
+pub fn write_name_at(random: &mut Random, combo: Combo, threshold: u8, len: usize) -> Case {
     let inputs = vec![
-        vault(random, combo),
+        vault_at(random, combo, threshold),
         dir_id(random),
         random_text(random, len),
     ];
-    let full = (16 + len).div_ceil(3) * 4 + 4;
-    let (stored, full) = if full <= 220 { (full, 0) } else { (32, full) };
+    let (stored, full) = match full_len(len) {
+        full if full <= threshold.into() => (full, 0),
+        full => (32, full),
+    };
     let mut case = with_room(Call::WriteName, random, inputs, &[], stored);
     case.buffers.push(buffer(random, full));
     case
@@ -26,14 +36,21 @@ pub fn open_name(random: &mut Random, combo: Combo, len: usize) -> Case {
     open_written(random, &write)
 }
 
+/// The case of [`open_name`] or [`open_long_name`], by the name's length.
+pub fn open_name_at(random: &mut Random, combo: Combo, threshold: u8, len: usize) -> Case {
+    let write = write_name_at(random, combo, threshold, len);
+    open_written(random, &write)
+}
+
 /// The call that opens the full name of these bytes, in the vault and directory
 /// of another call; `second` sealed them, and they need not be text.
 pub fn open_sealed(random: &mut Random, other: &Case, name: &[u8]) -> Case {
     let (enc, mac) = master_keys(&other.inputs[0]);
     let full = full_name(&siv::seal(mac, enc, &[&other.inputs[1]], name));
-    let (call, texts) = match full.len() {
-        0..=220 => (Call::OpenName, vec![full]),
-        _ => (Call::OpenLongName, vec![hash_name(&full), full]),
+    let (call, texts) = if full.len() <= other.threshold().into() {
+        (Call::OpenName, vec![full])
+    } else {
+        (Call::OpenLongName, vec![hash_name(&full), full])
     };
     let inputs = [&other.inputs[..2], &texts].concat();
     with_room(call, random, inputs, &[], name.len())
@@ -63,7 +80,12 @@ pub fn open_written(random: &mut Random, write: &Case) -> Case {
 
 /// The name can be one that is stored as it is: then row 11 applies.
 pub fn open_long_name(random: &mut Random, combo: Combo, len: usize) -> Case {
-    let write = write_name(random, combo, len);
+    open_long_name_at(random, combo, LARGEST, len)
+}
+
+/// In a vault with this threshold.
+pub fn open_long_name_at(random: &mut Random, combo: Combo, threshold: u8, len: usize) -> Case {
+    let write = write_name_at(random, combo, threshold, len);
     let (mut stored, mut full) = (vec![0; 220], vec![0; LONGEST_FULL_NAME]);
     let [vault, id, name] = &write.inputs[..] else {
         panic!("not what a name is written of");

@@ -11,7 +11,7 @@ use Rattle.octets.specs.Rows.{refused, number}
 use Rattle.answer.specs.Meaning.{row}
 use Rattle.answer.proofs.Refusal.{the-type}
 use Rattle.answer.specs.declared.Refusal.{Refusal}
-use Rattle.answer.specs.declared.Refusal.the-variants.{KeyOrNonceSize, DirectoryId, Name, Length, Text, Range, Room, RepeatedNonce, Header, Chunk, HashName, SyntheticIv, Combo, CheckValue}
+use Rattle.answer.specs.declared.Refusal.the-variants.{KeyOrNonceSize, DirectoryId, Name, Length, Text, Range, Room, RepeatedNonce, Header, Chunk, HashName, SyntheticIv, Label, Alg, Signature, Format, Combo, Threshold, CheckValue}
 use Rattle.check_line.specs.Line.{refusedLine, refusedAtLine, lineOf}
 use Rattle.check_line.proofs.Pieces.{written-as}
 use borrow.Author.Needs.{needs}
@@ -19,7 +19,7 @@ use Rattle.check_line.proofs.line.write_refusal.Statement.{statement}
 use Rattle.check_line.proofs.line.write_refusal.Tie as tie
 
 abbrev others : List ℕ
-others = 0 ∷ 1 ∷ 2 ∷ 3 ∷ 4 ∷ 5 ∷ 6 ∷ 7 ∷ 8 ∷ 10 ∷ 11 ∷ 12 ∷ 13 ∷ []
+others = 0 ∷ 1 ∷ 2 ∷ 3 ∷ 4 ∷ 5 ∷ 6 ∷ 7 ∷ 8 ∷ 10 ∷ 11 ∷ 12 ∷ 13 ∷ 14 ∷ 15 ∷ 16 ∷ 17 ∷ 18 ∷ []
 
 -- a refusal by a row that returns no number
 alone : (r : Refusal) → OneOf others (tagOf the-type r) → refused (number (row r)) ≡ row r
@@ -35,7 +35,12 @@ alone Header h = refl
 alone (Chunk i) h = absurd (miss others 9 tt h)
 alone HashName h = refl
 alone SyntheticIv h = refl
+alone Label h = refl
+alone Alg h = refl
+alone Signature h = refl
+alone Format h = refl
 alone Combo h = refl
+alone Threshold h = refl
 alone CheckValue h = refl
 
 told : (r : Refusal) (n : ℕ) → n ≡ number (row r) → OneOf others (tagOf the-type r) → refusedLine n ≡ lineOf (row r)

@@ -13,7 +13,7 @@ use Rattle.name_spec.specs.Names.{idRight, path}
 use Rattle.name_spec.specs.Calls.{pathLength, dirPathRows}
 use Rattle.name_spec.proofs.Texts.{length-path}
 use Rattle.name_spec.proofs.Rules.{id-exactly}
-use Rattle.name_spec.proofs.Ends.{name-ends}
+use Rattle.name_spec.proofs.Ends.{path-ends}
 use Rattle.name_texts.proofs.Placing.{placed-filled}
 use borrow.Author.Needs.{needs}
 use Rattle.names.proofs.path.dir_path.Statement.{statement}
@@ -33,7 +33,7 @@ unfolding dirPathRows
 returns c =
     let i = c .before .before .before .before in
     let x = i .args in
-    let exact = name-ends (x .v .enc) (x .v .mac) (x .dir-id .now) .0 (x .out .now) in
+    let exact = path-ends (x .v .enc) (x .v .mac) (x .dir-id .now) (x .out .now) in
     sym (exact .0 1 (omega arith) .1 (ap not (keys i), ap not (sym (c .before .id-right .ensures)) ∙ c .if1 .taken))
 
 returns-2 : tie.Need-returns-2
@@ -41,7 +41,7 @@ unfolding dirPathRows
 returns-2 c =
     let i = c .before .before .before .before .before in
     let x = i .args in
-    let exact = name-ends (x .v .enc) (x .v .mac) (x .dir-id .now) .0 (x .out .now) in
+    let exact = path-ends (x .v .enc) (x .v .mac) (x .dir-id .now) (x .out .now) in
     sym (exact .0 2 (omega arith) .1 (ap not (keys i), (ap not (right (c .before)), lt-ltb (length (x .out .now)) pathLength (omega (arith, c .if2 .taken)))))
 
 slice-aggregate-write-path : tie.Need-slice-aggregate-write-path
@@ -63,7 +63,7 @@ returns-3 c =
     let i = k .before .before .before .before .before in
     let x = i .args in
     let v = x .v in
-    let exact = name-ends (v .enc) (v .mac) (x .dir-id .now) .0 (x .out .now) in
+    let exact = path-ends (v .enc) (v .mac) (x .dir-id .now) (x .out .now) in
     let p = path (v .enc) (v .mac) (x .dir-id .now) in
     ap (ended (done (pathLength ∷ []))) (c .before .before .write-path .ensures ∙ placed-filled p (x .out .now) pathLength (length-path (v .enc) (v .mac) (x .dir-id .now)))
     ∙ sym (exact .1 .1 (ap not (keys i), (ap not (right (k .before)), (le-ltb (length (x .out .now)) pathLength (omega (arith, k .if2 .left)), tt))))

@@ -2,10 +2,11 @@
 -- Assumes nothing.
 use borrow.Author.Needs.{needs}
 use mathlib.Core.Path.{sym, ap, _∙_}
-use Rattle.answer.specs.Meaning.{meaning}
+use Rattle.answer.specs.Meaning.{row, meaning}
 use Rattle.skrapnefja.specs.Results.{atAfter}
 use Rattle.skrapnefja.proofs.Refusals.{keeps-at}
 use Rattle.answer.specs.declared.Answer.{Answer}
+use Rattle.answer.specs.declared.Refusal.{Refusal}
 use Rattle.skrapnefja.proofs.ending.name_chunk.Statement.{statement}
 use Rattle.skrapnefja.proofs.ending.name_chunk.Tie as tie
 
@@ -19,7 +20,11 @@ enum-told : tie.Need-enum-told
 enum-told c = search needs
 
 returns : tie.Need-returns
-returns c = search needs
+returns c =
+    let x = c .before .before .before .before .before .before .args in
+    let k = c .before .before .before .before .answer .given in
+    let r = c .before .refusal .given in
+    sym (ap (λ (a : Answer). atAfter (meaning a) (x .at .now)) (k .1) ∙ ap (λ (f : Refusal). atAfter (row f) (x .at .now)) (r .1))
 
 returns-2 : tie.Need-returns-2
 returns-2 c =

@@ -2,19 +2,19 @@
 -- Assumes nothing.
 use mathlib.Core.Path.{sym, _∙_}
 use borrow.Author.Needs.{needs}
-use Rattle.vault_bytes.proofs.Lending.{lent-size, lent-under}
+use Rattle.vault_bytes.proofs.Lending.{lent-name-size, lent-under}
 use Rattle.skrapnefja.proofs.Joined.{joined, lent-row}
 use Rattle.skrapnefja.proofs.name.skrapnefja_open_long_name.Statement.{statement}
 use Rattle.skrapnefja.proofs.name.skrapnefja_open_long_name.Tie as tie
 
-lent-row-requires : tie.Need-lent-row-requires
-lent-row-requires c κs = search needs
+lent-name-row-requires : tie.Need-lent-name-row-requires
+lent-name-row-requires c κs = search needs
 
 returns : tie.Need-returns
-returns c = let x = c .before .before .before .before .before .before .before .args in lent-row (x .vault .now) _ _ (x .written .now) (c .before .lent-row .ensures) (c .if1 .taken)
+returns c = let x = c .before .before .before .before .before .before .before .args in lent-row (x .vault .now) _ _ (x .written .now) (c .before .lent-name-row .ensures) (c .if1 .taken)
 
 vault-in-requires : tie.Need-vault-in-requires
-vault-in-requires c κs = lent-size _ (sym (c .before .lent-row .ensures) ∙ c .if1 .left)
+vault-in-requires c κs = lent-name-size _ (sym (c .before .lent-name-row .ensures) ∙ c .if1 .left)
 
 open-long-name-requires : tie.Need-open-long-name-requires
 open-long-name-requires c κs = search needs
@@ -29,13 +29,13 @@ returns-2 : tie.Need-returns-2
 returns-2 c =
     let v = c .before .before .before .before .before .before in
     let x = v .before .before .before .before .before .before .before .before .args in
-    joined (x .written .now) (c .before .before .before .before .open-long-name .ensures ∙ lent-under _ _ _ (v .before .before .lent-row .ensures) (v .before .if1 .left) (v .vault-in .ensures)) (c .end .ensures)
+    joined (x .written .now) (c .before .before .before .before .open-long-name .ensures ∙ lent-under _ _ _ (v .before .before .lent-name-row .ensures) (v .before .if1 .left) (v .vault-in .ensures)) (c .end .ensures)
 
 pub skrapnefja-open-long-name-spec : {M : Type 1} → statement M
 skrapnefja-open-long-name-spec =
     tie.close
     (tie.spec
-    lent-row-requires
+    lent-name-row-requires
     returns
     vault-in-requires
     open-long-name-requires

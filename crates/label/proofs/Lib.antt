@@ -1,0 +1,7 @@
+pub mod Telling
+pub mod Passing
+pub mod Values
+pub mod Cuts
+pub mod Decoding
+pub mod Readings
+pub mod Answers

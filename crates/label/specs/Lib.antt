@@ -1,0 +1,4 @@
+pub mod Found
+pub mod Says
+pub mod Segments
+pub mod Opened

@@ -1,0 +1,28 @@
+// The signature of a label.
+use encoding::base64url::Measure;
+use encoding::base64url::check;
+use encoding::base64url::decode;
+use hmac::mac;
+use octets::slice::equal;
+ghost use mathlib.Core.Path.{_≡_};
+ghost use mathlib.Core.Bool.{true, false};
+ghost use Rattle.octets.specs.Bytes.{same};
+ghost use Rattle.encoding.specs.Base64url.{accepted, decoded};
+ghost use Rattle.hmac.specs.Hmac.{hmacSha256};
+
+/// Is the third segment that of the MAC of what is signed?
+pub fn signature_right(raw_key: &[u8], signed: &[u8], segment: &[u8]) -> bool
+    requires { ⌜ accepted false (now segment) ≡ true ⌝ }
+    ensures { λ r. ⌜ r ≡ same (hmacSha256 (now («raw_key» .entry)) (now (signed .entry))) (decoded false (now (segment .entry))) ⌝ }
+{
+    let Measure::Accepted(n) = check(segment, false) else {
+        return false;
+    };
+    if n != 32 {
+        return false;
+    }
+    let mut signature = [0u8; 32];
+    decode(segment, false, &mut signature);
+    let tag = mac(raw_key, signed, b"", b"");
+    equal(&tag, &signature)
+}

@@ -1,0 +1,4 @@
+pub mod Label
+pub mod Rules
+pub mod Statements
+pub mod Examples

@@ -1,0 +1,1 @@
+// The vault's label: definitions alone.
