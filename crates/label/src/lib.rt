@@ -1,6 +1,6 @@
 // The vault's label, vault.cryptomator: three segments, a header and a payload in JSON, and a signature.
-pub mod members;
+mod members;
 pub mod open;
-pub mod segments;
-pub mod signature;
-pub mod texts;
+mod segments;
+mod signature;
+mod texts;
