@@ -12,7 +12,15 @@
  *   order in which they are named there. A vault that is lent is looked at before all else: row 1 if it has another size than 66,
  *   then, where a name is written or opened, row 18, then row 17. What row 1 says of keys and nonces is tried behind these.
  *   Done: the answer stands at the front of `out`, its length in `length`. Bytes of `out` past it, and `at`, are as before.
- *   Refused: nothing is written, but that row 10 writes the number of the chunk to `at`.
+ *   Refused: nothing is written, but that row 10 writes the number of the chunk to `at`, and rows 5 and 13 the place where a text is
+ *   broken.
+ *
+ * Where a text is broken
+ *   Row 5 writes to `at` the place in the text of the name. Row 13 writes to it the place in the label, counted from the label's
+ *   start, where a segment is broken; for anything else row 13 leaves `at`, so set it to UINT64_MAX before to tell the two apart.
+ *   A place counts characters from 0. It is the first character at which no well-formed text within the limits can go on, whatever
+ *   follows; or, where the text only ends too early, its length. So what stands before the place can be right, and the character
+ *   at it cannot: the mistake is there, or before it.
  *
  * The vault
  *   A vault is one record: its master keys, its cipher combo and its threshold. skrapnefja_make_vault makes it, and it is lent to
@@ -50,7 +58,8 @@ enum skrapnefja_row {
     SKRAPNEFJA_LENGTH = 4,            /* no file of this combo has this length, or the cleartext is over the limit; a header isn't 68
                                          or 88 bytes, as the combo has it; a chunk's cleartext isn't 1 to 32,768 bytes, or the chunk
                                          not 29 to 32,796 or 49 to 32,816; a wrapped key isn't 40 */
-    SKRAPNEFJA_TEXT = 5,              /* the text of a name is broken; or longer than the threshold at skrapnefja_open_name */
+    SKRAPNEFJA_TEXT = 5,              /* the text of a name is broken, or longer than the threshold at skrapnefja_open_name; `at` is
+                                         the place */
     SKRAPNEFJA_RANGE = 6,             /* the range ends behind the cleartext */
     SKRAPNEFJA_ROOM = 7,              /* a buffer has not the room for what goes into it */
     SKRAPNEFJA_REPEATED_NONCE = 8,    /* two chunk nonces of a file to write are equal */
@@ -58,7 +67,8 @@ enum skrapnefja_row {
     SKRAPNEFJA_CHUNK = 10,            /* the tag or MAC of a chunk that is needed is wrong; `at` is the lowest such chunk's number */
     SKRAPNEFJA_HASH_NAME = 11,        /* the full name is no longer than the threshold, or the stored name isn't its hash name */
     SKRAPNEFJA_SYNTHETIC_IV = 12,     /* the name's synthetic IV doesn't match, as other keys, another directory or damage can cause */
-    SKRAPNEFJA_LABEL = 13,            /* the label is over 4,096 bytes or malformed, as said at skrapnefja_open_label */
+    SKRAPNEFJA_LABEL = 13,            /* the label is over 4,096 bytes or malformed, as said at skrapnefja_open_label; `at` is the
+                                         place where a segment is broken, and as before if none is */
     SKRAPNEFJA_ALG = 14,              /* the label's "alg" isn't HS256 */
     SKRAPNEFJA_SIGNATURE = 15,        /* the label's signature is wrong, as another raw key or damage can cause */
     SKRAPNEFJA_FORMAT = 16,           /* the label's "format" isn't 8 */
@@ -129,14 +139,16 @@ uint32_t skrapnefja_wrap_key(const uint8_t *kek, size_t kek_len, const uint8_t *
 /*
  * Opens a label: writes the number of its combo to `combo` and its threshold, 36 to 220, to `threshold`. A label that is not as said
  * above gets row 13, also for a newline behind it, and row 15 where only the signature is another, be it in its length. Names and
- * strings are compared after their escapes are read. Rows 1, 13, 14, 15, 16, 17, 18.
+ * strings are compared after their escapes are read. Row 13 writes the place of the first segment that is not base64url to `at`; that
+ * of a segment that only ends too early is where the segment ends. It leaves `at` where the label is over 4,096 bytes or has not two
+ * dots, which is looked at before, and where the segments are right and the JSON in them is not. Rows 1, 13, 14, 15, 16, 17, 18.
  */
 uint32_t skrapnefja_open_label(const uint8_t *raw_key, size_t raw_key_len, const uint8_t *label, size_t label_len,
-                               uint32_t *combo, uint32_t *threshold);
+                               uint32_t *combo, uint32_t *threshold, uint64_t *at);
 
 /*
  * ---- The vault, which is lent to every call from here on:
- *     skrapnefja_open_label(raw_key, sizeof raw_key, label, label_len, &combo, &threshold);
+ *     skrapnefja_open_label(raw_key, sizeof raw_key, label, label_len, &combo, &threshold, &at);
  *     skrapnefja_make_vault(enc, sizeof enc, mac, sizeof mac, combo, threshold, SKRAPNEFJA_VAULT(vault), &length);
  *     skrapnefja_open_file(SKRAPNEFJA_VAULT(vault), file, file_len, out, out_len, &length, &at);
  */
@@ -231,19 +243,22 @@ uint32_t skrapnefja_write_name(const uint8_t *vault, size_t vault_len,
                                uint8_t *stored, size_t stored_len, uint8_t *full, size_t full_len,
                                uint64_t *length, uint64_t *full_length);
 
-/* Opens a stored name that is a full name, unshortened: writes the name, which is proper text. Rows 1, 18, 17, 2, 5, 7, 12, 3. */
+/*
+ * Opens a stored name that is a full name, unshortened: writes the name, which is proper text. Row 5 writes to `at` the place in
+ * `stored`; the limit is the vault's threshold. Rows 1, 18, 17, 2, 5, 7, 12, 3.
+ */
 uint32_t skrapnefja_open_name(const uint8_t *vault, size_t vault_len,
                               const uint8_t *dir_id, size_t dir_id_len, const uint8_t *stored, size_t stored_len,
-                              uint8_t *out, size_t out_len, uint64_t *length);
+                              uint8_t *out, size_t out_len, uint64_t *length, uint64_t *at);
 
 /*
- * Opens a shortened name, by what is stored and its full name: writes the name, which is proper text.
- * Rows 1, 18, 17, 2, 5, 7, 11, 12, 3.
+ * Opens a shortened name, by what is stored and its full name: writes the name, which is proper text. Row 5 writes to `at` the place
+ * in `full`, not in `stored`; the limit is the text of a name of SKRAPNEFJA_NAME_MAX bytes. Rows 1, 18, 17, 2, 5, 7, 11, 12, 3.
  */
 uint32_t skrapnefja_open_long_name(const uint8_t *vault, size_t vault_len,
                                    const uint8_t *dir_id, size_t dir_id_len, const uint8_t *stored, size_t stored_len,
                                    const uint8_t *full, size_t full_len,
-                                   uint8_t *out, size_t out_len, uint64_t *length);
+                                   uint8_t *out, size_t out_len, uint64_t *length, uint64_t *at);
 
 /* Writes the path of the directory with this ID, "/d/XX/" and thirty characters: 36 bytes, with no 0 behind them. Rows 1, 17, 2, 7. */
 uint32_t skrapnefja_dir_path(const uint8_t *vault, size_t vault_len,

@@ -116,6 +116,7 @@ static uint32_t unlock(const uint8_t *password_kek, struct unlocked *unlocked)
     uint8_t *enc = raw_key;
     uint8_t *mac = raw_key + SKRAPNEFJA_KEY_SIZE;
     uint64_t length;
+    uint64_t at = UINT64_MAX; /* stays so where row 13 has no place */
     uint32_t row = skrapnefja_unwrap_key(password_kek, SKRAPNEFJA_KEY_SIZE, files.primary_master_key,
                                          sizeof files.primary_master_key, enc, SKRAPNEFJA_KEY_SIZE, &length);
 
@@ -124,7 +125,11 @@ static uint32_t unlock(const uint8_t *password_kek, struct unlocked *unlocked)
                                     SKRAPNEFJA_KEY_SIZE, &length);
     }
     if (row == SKRAPNEFJA_DONE) {
-        row = skrapnefja_open_label(raw_key, sizeof raw_key, files.label, files.label_len, &unlocked->combo, &unlocked->threshold);
+        row = skrapnefja_open_label(raw_key, sizeof raw_key, files.label, files.label_len, &unlocked->combo, &unlocked->threshold,
+                                    &at);
+    }
+    if (row == SKRAPNEFJA_LABEL && at != UINT64_MAX) {
+        printf("the label is broken at character %" PRIu64 "\n", at);
     }
     if (row == SKRAPNEFJA_DONE) {
         row = skrapnefja_make_vault(enc, SKRAPNEFJA_KEY_SIZE, mac, SKRAPNEFJA_KEY_SIZE, unlocked->combo, unlocked->threshold,
@@ -149,7 +154,10 @@ static void unlock_the_vault(struct unlocked *unlocked)
     printf("unlocked the vault: combo %" PRIu32 ", threshold %" PRIu32 "\n", unlocked->combo, unlocked->threshold);
 }
 
-/* A label that was changed is not believed, and neither is one of another vault. */
+/*
+ * A label that was changed is not believed, and neither is one of another vault. Where a character is none of base64url, its place is
+ * told.
+ */
 static void refuse_a_changed_label(void)
 {
     struct unlocked none = {0, 0, {{0}}};
@@ -160,6 +168,12 @@ static void refuse_a_changed_label(void)
     files.label[files.label_len - 2] ^= 1;
     check(row == SKRAPNEFJA_SIGNATURE && none.combo == 0 && none.threshold == 0, "a changed label");
     printf("unlocked it with a changed label: refused %" PRIu32 "\n", row);
+
+    files.label[40] ^= 0x80;
+    row = unlock(kek, &none);
+    files.label[40] ^= 0x80;
+    check(row == SKRAPNEFJA_LABEL && none.combo == 0 && none.threshold == 0, "a mangled label");
+    printf("unlocked it with a mangled label: refused %" PRIu32 "\n", row);
 }
 
 static void open_the_log(const char *folder, const struct unlocked *unlocked)
@@ -211,6 +225,7 @@ static void write_and_open_a_name(const struct unlocked *unlocked)
     uint64_t stored_length = 0;
     uint64_t full_length = 0;
     uint64_t length = 0;
+    uint64_t at = 0;
 
     check(skrapnefja_dir_path(SKRAPNEFJA_VAULT(unlocked->vault), root, 0, path, sizeof path, &length) == SKRAPNEFJA_DONE,
           "the path of the root");
@@ -220,8 +235,8 @@ static void write_and_open_a_name(const struct unlocked *unlocked)
     check(stored_length <= unlocked->threshold && full_length == 0, "a name that is stored as it is");
     printf("%s is stored as %.*s/%.*s\n", name, (int)length, (const char *)path, (int)stored_length, (const char *)stored);
 
-    check(skrapnefja_open_name(SKRAPNEFJA_VAULT(unlocked->vault), root, 0, stored, (size_t)stored_length, out, sizeof out, &length)
-              == SKRAPNEFJA_DONE,
+    check(skrapnefja_open_name(SKRAPNEFJA_VAULT(unlocked->vault), root, 0, stored, (size_t)stored_length, out, sizeof out, &length,
+                               &at) == SKRAPNEFJA_DONE,
           "opening the name");
     check(length == strlen(name) && memcmp(out, name, strlen(name)) == 0, "the name");
 }

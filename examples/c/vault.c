@@ -1,6 +1,6 @@
 /*
- * Makes a vault of each combo, writes a file of two chunks in both and reads it back, then writes names in them and opens these, and
- * has one refused. Ends with status 0 if all is as expected.
+ * Makes a vault of each combo, writes a file of two chunks in both and reads it back, then writes names in them and opens these, has
+ * one refused, and shows where a mangled one is broken. Ends with status 0 if all is as expected.
  * The keys and the nonces are fixed here so that each run prints the same; a real program gets the master keys as unlock.c does,
  * draws the content key and the nonces from a random generator, and wipes keys and vaults when done.
  */
@@ -92,6 +92,7 @@ static void refuse_other_vaults(void)
     skrapnefja_vault vault;
     uint8_t name[SKRAPNEFJA_NAME_MAX];
     uint64_t length = 99;
+    uint64_t at = 77;
     uint32_t row;
 
     memset(vault.bytes, UNTOUCHED, sizeof vault.bytes);
@@ -116,8 +117,8 @@ static void refuse_other_vaults(void)
 
     vault = own.vault;
     vault.bytes[SKRAPNEFJA_VAULT_SIZE - 1] = SKRAPNEFJA_THRESHOLD_MIN - 1;
-    row = skrapnefja_open_name(SKRAPNEFJA_VAULT(vault), enc, 0, enc, 0, name, sizeof name, &length);
-    check(row == SKRAPNEFJA_THRESHOLD && length == 99, "a vault with another threshold");
+    row = skrapnefja_open_name(SKRAPNEFJA_VAULT(vault), enc, 0, enc, 0, name, sizeof name, &length, &at);
+    check(row == SKRAPNEFJA_THRESHOLD && length == 99 && at == 77, "a vault with another threshold");
     printf("opened a name with the threshold 35: refused %" PRIu32 "\n", row);
 }
 
@@ -243,6 +244,7 @@ static void write_and_open_a_name(void)
     uint64_t stored_length = 0;
     uint64_t full_length = 99;
     uint64_t length = 0;
+    uint64_t at = 77;
 
     check(skrapnefja_write_name(SKRAPNEFJA_VAULT(own.vault), root, 0, (const uint8_t *)name, name_size, stored, sizeof stored,
                                 full, sizeof full, &stored_length, &full_length) == SKRAPNEFJA_DONE,
@@ -250,11 +252,28 @@ static void write_and_open_a_name(void)
     check(stored_length == 44 && full_length == 0, "lengths of the name");
     printf("stored %s as %.*s\n", name, (int)stored_length, (const char *)stored);
 
-    check(skrapnefja_open_name(SKRAPNEFJA_VAULT(own.vault), root, 0, stored, (size_t)stored_length, out, sizeof out, &length)
+    check(skrapnefja_open_name(SKRAPNEFJA_VAULT(own.vault), root, 0, stored, (size_t)stored_length, out, sizeof out, &length, &at)
               == SKRAPNEFJA_DONE,
           "opening the name");
-    check(length == name_size && memcmp(out, name, name_size) == 0, "the name");
+    check(length == name_size && at == 77 && memcmp(out, name, name_size) == 0, "the name");
     printf("opened it: %.*s\n", (int)length, (const char *)out);
+}
+
+/* What a repair desk shows of a stored name in which a character is wrong: the text, and a mark under the place where it is broken. */
+static void show_a_mangled_name(void)
+{
+    static const char mangled[] = "nA3El8FvIFMAVJ9R?fApweNWPRGHG4cvsPLweok=.c9r";
+    uint8_t out[SKRAPNEFJA_NAME_MAX];
+    uint64_t length = 99;
+    uint64_t at = 77;
+    uint32_t row;
+
+    memset(out, UNTOUCHED, sizeof out);
+    row = skrapnefja_open_name(SKRAPNEFJA_VAULT(own.vault), enc, 0, (const uint8_t *)mangled, sizeof mangled - 1, out, sizeof out,
+                               &length, &at);
+    check(row == SKRAPNEFJA_TEXT && at == 16, "a mangled name");
+    check(length == 99 && all_untouched(out, sizeof out), "no name of a mangled text");
+    printf("opened it mangled: refused %" PRIu32 " at %" PRIu64 "\n    %s\n    %*s\n", row, at, mangled, (int)at + 1, "^");
 }
 
 /*
@@ -270,6 +289,7 @@ static void shorten_by_the_threshold(void)
     uint64_t hash_length = 0;
     uint64_t full_length = 0;
     uint64_t length = 0;
+    uint64_t at = 77;
     uint32_t row;
 
     check(skrapnefja_write_name(SKRAPNEFJA_VAULT(older.vault), enc, 0, name, sizeof name, hash, sizeof hash, full, sizeof full,
@@ -277,16 +297,16 @@ static void shorten_by_the_threshold(void)
           "writing the name in the older vault");
     check(hash_length == 32 && full_length == 44, "lengths of the name there");
     check(skrapnefja_open_long_name(SKRAPNEFJA_VAULT(older.vault), enc, 0, hash, (size_t)hash_length, full, (size_t)full_length,
-                                    out, sizeof out, &length) == SKRAPNEFJA_DONE,
+                                    out, sizeof out, &length, &at) == SKRAPNEFJA_DONE,
           "opening it there");
     check(length == sizeof name && memcmp(out, name, sizeof name) == 0, "the name there");
     printf("with the threshold %" PRIu32 " it is stored as %.*s\n", older.threshold, (int)hash_length, (const char *)hash);
 
-    row = skrapnefja_open_name(SKRAPNEFJA_VAULT(older.vault), enc, 0, full, (size_t)full_length, out, sizeof out, &length);
-    check(row == SKRAPNEFJA_TEXT, "a full name over the threshold");
-    printf("opened its full name there: refused %" PRIu32 "\n", row);
+    row = skrapnefja_open_name(SKRAPNEFJA_VAULT(older.vault), enc, 0, full, (size_t)full_length, out, sizeof out, &length, &at);
+    check(row == SKRAPNEFJA_TEXT && at == 32, "a full name over the threshold");
+    printf("opened its full name there: refused %" PRIu32 " at %" PRIu64 "\n", row, at);
     row = skrapnefja_open_long_name(SKRAPNEFJA_VAULT(own.vault), enc, 0, hash, (size_t)hash_length, full, (size_t)full_length, out,
-                                    sizeof out, &length);
+                                    sizeof out, &length, &at);
     check(row == SKRAPNEFJA_HASH_NAME, "a full name that is not shortened");
     printf("opened both with the threshold %" PRIu32 ": refused %" PRIu32 "\n", own.threshold, row);
 }
@@ -322,6 +342,7 @@ static void write_and_open_a_long_name(void)
     uint64_t stored_length = 0;
     uint64_t full_length = 0;
     uint64_t length = 0;
+    uint64_t at = 77;
     size_t i;
 
     for (i = 0; i < sizeof name; i++) {
@@ -334,7 +355,7 @@ static void write_and_open_a_long_name(void)
     printf("stored a name of 100 letters as %.*s\n", (int)stored_length, (const char *)stored);
 
     check(skrapnefja_open_long_name(SKRAPNEFJA_VAULT(own.vault), enc, 0, stored, (size_t)stored_length, full,
-                                    (size_t)full_length, out, sizeof out, &length) == SKRAPNEFJA_DONE,
+                                    (size_t)full_length, out, sizeof out, &length, &at) == SKRAPNEFJA_DONE,
           "opening the long name");
     check(length == sizeof name && memcmp(out, name, sizeof name) == 0, "the long name");
     printf("opened it: %" PRIu64 " bytes\n", length);
@@ -348,6 +369,7 @@ int main(void)
     use_the_vault(&own, &older);
     use_the_vault(&older, &own);
     write_and_open_a_name();
+    show_a_mangled_name();
     shorten_by_the_threshold();
     write_and_open_a_long_name();
     refuse_a_stray_byte();

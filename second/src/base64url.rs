@@ -1,6 +1,11 @@
 //! Base 64 with the URL and filename safe alphabet (RFC 4648, section 5).
 
+use crate::places;
+
 const ALPHABET: &[u8; 64] = b"ABCDEFGHIJKLMNOPQRSTUVWXYZabcdefghijklmnopqrstuvwxyz0123456789-_";
+
+/// The characters of a whole group.
+pub const GROUP_LEN: usize = 4;
 
 /// In [`VALUES`], what is not in the alphabet.
 const NONE: u8 = 0xff;
@@ -60,6 +65,22 @@ pub fn decode(text: &[u8], padded: bool) -> Option<Vec<u8>> {
     Some(data)
 }
 
+/// Where a text that [`decode`] refuses is broken: the place of the first
+/// character with which no text begins that it takes, or the text's length.
+///
+/// The continuations that are tried are enough. What follows a start is
+/// characters of the alphabet and then padding. With `A` for each of these
+/// characters the text is still taken: spare bits in the start are as they were,
+/// and others are zero. With four of them left out it is taken too, as long as one
+/// remains, so that the last character before the padding is the same.
+pub fn place(text: &[u8], padded: bool) -> usize {
+    let endings: &[&str] = if padded { &["", "=", "=="] } else { &[""] };
+    let is_taken = |text: &[u8]| decode(text, padded).is_some();
+    places::place(text, |start| {
+        places::goes_on(start, GROUP_LEN, endings, is_taken)
+    })
+}
+
 fn characters(group: &[u8; 3]) -> [u8; 4] {
     let [a, b, c] = *group;
     let bits = u32::from_be_bytes([0, a, b, c]);
@@ -81,6 +102,9 @@ fn bytes(group: &[u8; 4]) -> Option<[u8; 3]> {
     let [_, a, b, c] = bits.to_be_bytes();
     (!values.contains(&NONE)).then_some([a, b, c])
 }
+
+#[cfg(test)]
+mod place_tests;
 
 #[cfg(test)]
 mod tests {

@@ -21,6 +21,7 @@ pub mod hex;
 pub mod hmac;
 pub mod json;
 pub mod key_wrap;
+mod places;
 mod sha;
 pub mod sha1;
 pub mod sha256;

@@ -346,7 +346,9 @@ fn check_base64url(data: &[u8], text: &str, padded: bool) {
 
     let mut out = vec![OLD; data.len()];
     let mut length = u64::MAX;
-    let status = primitives::base64url_decode(text.as_bytes(), flag, &mut out, &mut length);
+    let mut at = 0;
+    let status =
+        primitives::base64url_decode(text.as_bytes(), flag, &mut out, &mut length, &mut at);
     assert_eq!(status, DONE);
     assert_eq!(out, data);
     assert_eq!(length, data.len() as u64);

@@ -108,7 +108,7 @@ fn another_password(files: &VaultFiles) {
 }
 
 /// A label that was changed is not believed, and neither is one of another
-/// vault.
+/// vault. Where a character is none of base64url, its place is told.
 fn a_changed_label(files: &VaultFiles) {
     let mut files = files.clone();
     let place = files.label.len() - 2;
@@ -116,6 +116,11 @@ fn a_changed_label(files: &VaultFiles) {
     let refusal = files.unlock(&KEK).unwrap_err();
     assert_eq!(refusal, Refusal::Signature);
     println!("with a changed label: row 15, {refusal}");
+
+    files.label[40] = b'?';
+    let refusal = files.unlock(&KEK).unwrap_err();
+    assert_eq!(refusal, Refusal::Label(Some(40)));
+    println!("with a mangled label: row 13, {refusal}");
 }
 
 fn log(vault: &Vault, folder: &Path) -> Result<(), Box<dyn Error>> {

@@ -34,6 +34,7 @@ fn main() -> Result<(), Refusal> {
         the_other_combo(other, &file)?;
     }
     name(&vault)?;
+    mangled_name(&vault);
     shortened_name(&older, &vault)?;
     stray_byte(&vault);
     long_name(&vault)
@@ -112,6 +113,20 @@ fn name(vault: &Vault) -> Result<(), Refusal> {
     Ok(())
 }
 
+/// What a repair desk shows of a stored name in which a character is wrong: the
+/// text, and a mark under the place where it is broken.
+fn mangled_name(vault: &Vault) {
+    let mangled = "sSkjkq_Jxt1GuG05?MsZFowq9W9xHNY=.c9r";
+    let mut name = [0; skrapnefja::MAX_NAME_LEN];
+    let opened = vault.open_name(b"", mangled.as_bytes(), &mut name);
+    let Err(refusal @ Refusal::Text(place)) = opened else {
+        unreachable!("no stored name has a question mark");
+    };
+    println!("mangled: row 5, {refusal}");
+    println!("    {mangled}");
+    println!("    {:>1$}", '^', place as usize + 1);
+}
+
 /// In the older vault a name of 9 bytes is shortened. Its full name does not
 /// open there as a stored name, and the pair of both does not open where the
 /// full name itself is stored.
@@ -128,7 +143,7 @@ fn shortened_name(older: &Vault, vault: &Vault) -> Result<(), Refusal> {
     let length = older.open_long_name(b"", stored, full, &mut opened)?;
     assert_eq!(&opened[..length], b"train.log");
     let plain = older.open_name(b"", full, &mut opened);
-    assert_eq!(plain, Err(Refusal::Text));
+    assert_eq!(plain, Err(Refusal::Text(32)));
     let pair = vault.open_long_name(b"", stored, full, &mut opened);
     assert_eq!(pair, Err(Refusal::HashName));
     println!(

@@ -42,8 +42,8 @@ pub(crate) use safely;
 
 use crate::Refusal;
 
-/// The result of a call that gave this status, and the length that it set.
-/// The length is that of a slice, or at most that of the longest file.
+/// The result of a call that gave this status, and the length and the `at` that
+/// it set. The length is that of a slice, or at most that of the longest file.
 pub fn done(status: u32, length: u64, at: u64) -> Result<usize, Refusal> {
     match status {
         0 => Ok(length as usize),

@@ -3,8 +3,9 @@
 //! A slice is a pointer and a length; the pointer may not be null, also if the
 //! length is 0. Each function gives 0 for done, or else the row of the
 //! refusal. It sets `length`, `full_length`, `reserved`, and `combo` and
-//! `threshold` of a label, only if it gives 0, and `at` only if it gives 10. No
-//! buffer or result may overlap anything else that is passed.
+//! `threshold` of a label, only if it gives 0, and `at` only if it gives 5, 10,
+//! or 13 for a broken segment. No buffer or result may overlap anything else
+//! that is passed.
 
 extern "C" {
     pub fn skrapnefja_open_label(
@@ -14,6 +15,7 @@ extern "C" {
         label_len: usize,
         combo: *mut u32,
         threshold: *mut u32,
+        at: *mut u64,
     ) -> u32;
 
     pub fn skrapnefja_make_vault(
@@ -149,6 +151,7 @@ extern "C" {
         out: *mut u8,
         out_len: usize,
         length: *mut u64,
+        at: *mut u64,
     ) -> u32;
 
     pub fn skrapnefja_open_long_name(
@@ -163,6 +166,7 @@ extern "C" {
         out: *mut u8,
         out_len: usize,
         length: *mut u64,
+        at: *mut u64,
     ) -> u32;
 
     pub fn skrapnefja_dir_path(

@@ -1,6 +1,7 @@
 //! The label of a vault: what its `vault.cryptomator` says.
 
 use crate::call::{done, safely};
+use crate::refusal::NO_PLACE;
 use crate::{Combo, Refusal};
 
 /// The bytes in a raw key: the encryption master key, then the MAC master key.
@@ -40,7 +41,7 @@ impl Label {
     /// Reads the label that is the whole of `vault.cryptomator`, once its
     /// signature under the raw key is found right. A line break behind it is
     /// none of its bytes, and row 13. Refused with rows 1 and 13 to 18, in
-    /// their order.
+    /// their order. Row 13 has a place where a segment is broken.
     ///
     /// ```
     /// use skrapnefja::{Label, Refusal, Vault, KEY_LEN, RAW_KEY_LEN};
@@ -51,14 +52,15 @@ impl Label {
     ///     Vault::new(enc, mac, label)
     /// }
     ///
-    /// let refusal = unlock(&[7; RAW_KEY_LEN], b"not a label").unwrap_err();
-    /// assert_eq!(refusal, Refusal::Label);
+    /// let unlock = |label| unlock(&[7; RAW_KEY_LEN], label).unwrap_err();
+    /// assert_eq!(unlock(b"not a label"), Refusal::Label(None));
+    /// assert_eq!(unlock(b"eyJ9.ey 9.AAAA"), Refusal::Label(Some(7)));
     /// ```
     pub fn open(raw_key: &[u8], label: &[u8]) -> Result<Self, Refusal> {
-        let (mut combo, mut threshold) = (0, 0);
+        let (mut combo, mut threshold, mut at) = (0, 0, NO_PLACE);
         let status = safely!(skrapnefja_open_label:
-            in raw_key, in label, set combo, set threshold,);
-        done(status, 0, 0)?;
+            in raw_key, in label, set combo, set threshold, set at,);
+        done(status, 0, at)?;
         let combo = Combo::numbered(combo);
         Ok(Label { combo, threshold })
     }

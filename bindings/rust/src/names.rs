@@ -56,22 +56,35 @@ impl Vault {
 
     /// Writes the name of a stored full name, and gives its length. What is
     /// written is UTF-8. A buffer of [`MAX_NAME_LEN`] bytes has room for any
-    /// name. Refused with rows 2, 5, 7, 12 and then 3.
+    /// name. Refused with rows 2, 5, 7, 12 and then 3. Row 5 has the place in
+    /// `stored` where it is broken, or where it gets too long for the threshold.
+    ///
+    /// ```
+    /// # use skrapnefja::{Combo, Label, Refusal, Vault};
+    /// # let label = Label { combo: Combo::SivGcm, threshold: 220 };
+    /// # let vault = Vault::new(&[1; 32], &[2; 32], label)?;
+    /// let mangled = b"l9FzfPEc4alEQu_U5mc5!H00yhk=.c9r";
+    /// let refusal = vault.open_name(b"", mangled, &mut [0; 220]).unwrap_err();
+    /// assert_eq!(refusal, Refusal::Text(20));
+    /// assert_eq!(mangled[20], b'!');
+    /// # Ok::<(), Refusal>(())
+    /// ```
     pub fn open_name(
         &self,
         dir_id: &[u8],
         stored: &[u8],
         out: &mut [u8],
     ) -> Result<usize, Refusal> {
-        let (vault, mut length) = (&self.bytes, 0);
+        let (vault, mut length, mut at) = (&self.bytes, 0, 0);
         let status = safely!(skrapnefja_open_name:
-            in vault, in dir_id, in stored, out out, set length,);
-        done(status, length, 0)
+            in vault, in dir_id, in stored, out out, set length, set at,);
+        done(status, length, at)
     }
 
     /// Writes the name with this stored and this full name, and gives its
     /// length. What is written is UTF-8. A buffer of [`MAX_NAME_LEN`] bytes has
-    /// room for any name. Refused with rows 2, 5, 7, 11, 12 and then 3.
+    /// room for any name. Refused with rows 2, 5, 7, 11, 12 and then 3. Row 5
+    /// has the place in `full` where it is broken.
     pub fn open_long_name(
         &self,
         dir_id: &[u8],
@@ -79,10 +92,10 @@ impl Vault {
         full: &[u8],
         out: &mut [u8],
     ) -> Result<usize, Refusal> {
-        let (vault, mut length) = (&self.bytes, 0);
+        let (vault, mut length, mut at) = (&self.bytes, 0, 0);
         let status = safely!(skrapnefja_open_long_name:
-            in vault, in dir_id, in stored, in full, out out, set length,);
-        done(status, length, 0)
+            in vault, in dir_id, in stored, in full, out out, set length, set at,);
+        done(status, length, at)
     }
 
     /// Writes the path of the directory with this ID below the vault's root, 36

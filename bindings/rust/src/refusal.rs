@@ -3,9 +3,19 @@
 use std::error::Error;
 use std::fmt::{self, Display, Formatter};
 
+/// What `at` is before a call and stays where row 13 has no place: no place in a
+/// label is as great.
+pub(crate) const NO_PLACE: u64 = u64::MAX;
+
 /// The refusals, in the order in which a call tries those that speak of its
 /// input, but that a name that is opened gets row 3 last. A refused call has
 /// changed no buffer.
+///
+/// Rows 5 and 13 say at which place a text is broken. A place counts characters
+/// from 0. It is the first character at which no well-formed text within the
+/// limits can go on, whatever follows; or, where the text only ends too early,
+/// its length. So what stands before the place can be right, and the character
+/// at it cannot: the mistake is there, or before it.
 #[derive(Clone, Copy, Debug, PartialEq, Eq, Hash)]
 pub enum Refusal {
     /// Row 1: a key is not 32 bytes, a raw key is not 64, a nonce is not 12 in
@@ -24,9 +34,9 @@ pub enum Refusal {
     /// form not 29 to 32,796 in SIV_GCM or 49 to 32,816 in SIV_CTRMAC; a wrapped
     /// key is not 40.
     Length,
-    /// Row 5: the text of the (full) name is broken, or has more characters
-    /// than the threshold where the name is stored as it is.
-    Text,
+    /// Row 5: the text of the (full) name is broken at this place, or has more
+    /// characters than the threshold where the name is stored as it is.
+    Text(u64),
     /// Row 6: the range ends behind the cleartext.
     Range,
     /// Row 7: a buffer has not the room for what goes into it.
@@ -47,8 +57,11 @@ pub enum Refusal {
     /// three segments of unpadded base64url with zero spare bits; its header or
     /// payload is not a JSON object, or has values nested deeper than eight; or
     /// `alg`, `format`, `cipherCombo` or `shorteningThreshold` is missing, given
-    /// twice or of the wrong kind.
-    Label,
+    /// twice or of the wrong kind. Where the size and the number of segments are
+    /// right and a segment is not base64url, the place of the first such one is
+    /// given, counted from the label's start; that of a segment that only ends
+    /// too early is where the segment ends.
+    Label(Option<u64>),
     /// Row 14: the label's `alg` isn't HS256.
     Alg,
     /// Row 15: the label's signature is wrong, as another raw key or damage can
@@ -73,7 +86,7 @@ impl Refusal {
             Refusal::DirectoryId => 2,
             Refusal::Name => 3,
             Refusal::Length => 4,
-            Refusal::Text => 5,
+            Refusal::Text(_) => 5,
             Refusal::Range => 6,
             Refusal::Room => 7,
             Refusal::RepeatedNonce => 8,
@@ -81,7 +94,7 @@ impl Refusal {
             Refusal::Chunk(_) => 10,
             Refusal::HashName => 11,
             Refusal::SyntheticIv => 12,
-            Refusal::Label => 13,
+            Refusal::Label(_) => 13,
             Refusal::Alg => 14,
             Refusal::Signature => 15,
             Refusal::Format => 16,
@@ -91,14 +104,15 @@ impl Refusal {
         }
     }
 
-    /// The refusal of a row of the table; `at` is the chunk of row 10.
+    /// The refusal of a row of the table; `at` is the chunk of row 10, the place
+    /// of row 5, and that of row 13 or [`NO_PLACE`].
     pub(crate) fn new(row: u32, at: u64) -> Self {
         match row {
             1 => Refusal::KeyOrNonceSize,
             2 => Refusal::DirectoryId,
             3 => Refusal::Name,
             4 => Refusal::Length,
-            5 => Refusal::Text,
+            5 => Refusal::Text(at),
             6 => Refusal::Range,
             7 => Refusal::Room,
             8 => Refusal::RepeatedNonce,
@@ -106,7 +120,7 @@ impl Refusal {
             10 => Refusal::Chunk(at),
             11 => Refusal::HashName,
             12 => Refusal::SyntheticIv,
-            13 => Refusal::Label,
+            13 => Refusal::Label((at != NO_PLACE).then_some(at)),
             14 => Refusal::Alg,
             15 => Refusal::Signature,
             16 => Refusal::Format,
@@ -125,7 +139,9 @@ impl Display for Refusal {
             Refusal::DirectoryId => "not a directory ID",
             Refusal::Name => "the name is empty, too long or not proper text",
             Refusal::Length => "the length is wrong",
-            Refusal::Text => "not the text of an encrypted name",
+            Refusal::Text(place) => {
+                return write!(f, "the text of the name is broken at character {place}")
+            }
             Refusal::Range => "the range ends behind the cleartext",
             Refusal::Room => "a buffer is too short",
             Refusal::RepeatedNonce => "two chunks have the same nonce",
@@ -133,7 +149,10 @@ impl Display for Refusal {
             Refusal::Chunk(number) => return write!(f, "chunk {number} is not genuine"),
             Refusal::HashName => "the full name does not belong to the stored name",
             Refusal::SyntheticIv => "the name is not genuine",
-            Refusal::Label => "not a vault's label",
+            Refusal::Label(Some(place)) => {
+                return write!(f, "the label is broken at character {place}")
+            }
+            Refusal::Label(None) => "not a vault's label",
             Refusal::Alg => "the label's algorithm is not HS256",
             Refusal::Signature => "the label is not genuine",
             Refusal::Format => "the vault's format is not 8",
@@ -158,16 +177,24 @@ mod tests {
     fn rows() {
         for row in ROWS {
             assert_eq!(Refusal::new(row, 7).row(), row);
+            assert_eq!(Refusal::new(row, NO_PLACE).row(), row);
         }
+        assert_eq!(Refusal::new(5, 7), Refusal::Text(7));
         assert_eq!(Refusal::new(10, u64::MAX), Refusal::Chunk(u64::MAX));
+        assert_eq!(Refusal::new(13, 0), Refusal::Label(Some(0)));
+        assert_eq!(Refusal::new(13, NO_PLACE), Refusal::Label(None));
     }
 
     #[test]
     fn texts() {
         let mut texts = ROWS.map(|row| Refusal::new(row, 3).to_string()).to_vec();
+        assert_eq!(texts[4], "the text of the name is broken at character 3");
         assert_eq!(texts[9], "chunk 3 is not genuine");
+        assert_eq!(texts[12], "the label is broken at character 3");
+        texts.push(Refusal::Label(None).to_string());
+        assert_eq!(texts[ROWS.len()], "not a vault's label");
         texts.sort();
         texts.dedup();
-        assert_eq!(texts.len(), ROWS.len());
+        assert_eq!(texts.len(), ROWS.len() + 1);
     }
 }

@@ -398,7 +398,7 @@ fn thresholds() {
             let open_long = |out: &mut [u8]| vault.open_long_name(ID, &hash, &full, out);
             if threshold < 40 {
                 assert_eq!(written(&vault, name), (hash.clone(), full.clone()));
-                assert_eq!(refused(9, open), Refusal::Text);
+                assert_eq!(refused(9, open), Refusal::Text(32));
                 assert_eq!(done(9, open_long), name);
             } else {
                 assert_eq!(written(&vault, name), (full.clone(), vec![]));

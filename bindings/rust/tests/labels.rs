@@ -76,21 +76,69 @@ fn raw_keys() {
     }
 }
 
+/// There is no place where the number of segments or the size is wrong, though
+/// a segment is broken too.
 #[test]
-fn segments() {
+fn not_three_segments() {
     for label in [
         "",
         "no label",
+        "!.!",
+        "!.!.!.!",
         &SAMPLE.replace('.', ""),
         &format!("{SAMPLE}."),
-        &format!("{SAMPLE}\n"),
-        &format!("{SAMPLE}="),
-        &format!("\u{feff}{SAMPLE}"),
-        &SAMPLE.replacen("eyJ", "ey+", 1),
-        // The signature's bytes, with spare bits that are not zero.
-        &SAMPLE.replace("-ss", "-st"),
+        &format!("!{}..", "A".repeat(MAX_LABEL_LEN)),
     ] {
-        assert_eq!(open(label), Err(Refusal::Label), "{label}");
+        assert_eq!(open(label), Err(Refusal::Label(None)), "{label}");
+    }
+}
+
+/// The place of a broken segment, counted from the label's start.
+#[test]
+fn broken_segments() {
+    let end = SAMPLE.len() as u64;
+    for (label, place) in [
+        (format!("{SAMPLE}\n"), end),
+        (format!("{SAMPLE}="), end),
+        (format!("\u{feff}{SAMPLE}"), 0),
+        (SAMPLE.replacen("eyJ", "ey+", 1), 2),
+        // The segments are "eyJh", "e30" and "AA", but for what is wrong.
+        ("ey h.e30.AA".to_string(), 2),
+        ("eyJh.e=0.AA".to_string(), 6),
+        ("eyJh.e30.A/".to_string(), 10),
+        ("eyJh.e30=.AA".to_string(), 8),
+        // Only too short, by a character of the group or by its spare bits.
+        ("eyJha.e30.AA".to_string(), 5),
+        ("eyJh.e31.AA".to_string(), 8),
+        ("eyJh.e30.A".to_string(), 10),
+        (SAMPLE.replace("-ss", "-st"), end),
+        // The first broken segment counts, and before any fault of JSON.
+        ("!.!.!".to_string(), 0),
+        ("AAAA.AA!.!".to_string(), 7),
+        ("..!".to_string(), 2),
+    ] {
+        assert_eq!(open(&label), Err(Refusal::Label(Some(place))), "{label}");
+    }
+}
+
+/// In C, `at` is written with a place only, and the results with success only.
+#[test]
+fn numbers() {
+    let raw_key: Vec<u8> = (0..RAW_KEY_LEN as u8).collect();
+    for (label, results) in [
+        (SAMPLE, (0, 1, 220, 73)),
+        ("eyJh.e=0.AA", (13, 71, 72, 6)),
+        ("no label", (13, 71, 72, 73)),
+        ("e30.e30.", (13, 71, 72, 73)),
+        (&SAMPLE.replace("-ss", "-sw"), (15, 71, 72, 73)),
+    ] {
+        let (mut combo, mut threshold, mut at) = (71, 72, 73);
+        // SAFETY: two slices, and three numbers.
+        let row = unsafe {
+            call!(skrapnefja_open_label:
+                in raw_key, in label, set combo, set threshold, set at,)
+        };
+        assert_eq!((row, combo, threshold, at), results, "{label}");
     }
 }
 
@@ -108,7 +156,7 @@ fn texts() {
         r#"{"format":8,"format":8,"cipherCombo":"SIV_GCM","shorteningThreshold":220}"#,
         r#"{"format":8,"\u0066ormat":8,"cipherCombo":"SIV_GCM","shorteningThreshold":220}"#,
     ] {
-        assert_eq!(open(&label(HS256, payload, "")), Err(Refusal::Label));
+        assert_eq!(open(&label(HS256, payload, "")), Err(Refusal::Label(None)));
     }
     for header in [
         "{}",
@@ -116,7 +164,7 @@ fn texts() {
         r#"{"alg":256}"#,
         r#"{"alg":"none","alg":"HS256"}"#,
     ] {
-        assert_eq!(open(&label(header, PAYLOAD, "")), Err(Refusal::Label));
+        assert_eq!(open(&label(header, PAYLOAD, "")), Err(Refusal::Label(None)));
     }
 }
 
@@ -127,7 +175,7 @@ fn longest() {
     let without = label(HS256, PAYLOAD, "").len();
     for (len, refusal) in [
         (MAX_LABEL_LEN, Refusal::Signature),
-        (MAX_LABEL_LEN + 1, Refusal::Label),
+        (MAX_LABEL_LEN + 1, Refusal::Label(None)),
     ] {
         let signature = "A".repeat(len - without);
         assert_eq!(open(&label(HS256, PAYLOAD, &signature)), Err(refusal));
@@ -137,7 +185,7 @@ fn longest() {
 /// Arrays and objects of a member may be eight deep.
 #[test]
 fn nested() {
-    for (depth, refusal) in [(8, Refusal::Signature), (9, Refusal::Label)] {
+    for (depth, refusal) in [(8, Refusal::Signature), (9, Refusal::Label(None))] {
         for (front, inner, back) in [("[", "", "]"), (r#"{"":"#, "0", "}")] {
             let value = front.repeat(depth) + inner + &back.repeat(depth);
             let payload = PAYLOAD.replace('}', &format!(r#","x":{value}}}"#));

@@ -5,7 +5,7 @@ use mathlib.Core.List.{List, [], _∷_}
 use lib.ListN.{replicate}
 use Rattle.octets.specs.Rows.{Outcome, done, refused, refusedAt}
 use Rattle.answer.specs.declared.Refusal.{Refusal}
-use Rattle.answer.specs.declared.Refusal.the-variants.{KeyOrNonceSize, DirectoryId, Name, Length, Text, Range, Room, RepeatedNonce, Header, Chunk, HashName, SyntheticIv, Label, Alg, Signature, Format, Combo, Threshold, CheckValue}
+use Rattle.answer.specs.declared.Refusal.the-variants.{KeyOrNonceSize, DirectoryId, Name, Length, Text, Range, Room, RepeatedNonce, Header, Chunk, HashName, SyntheticIv, Label, Segment, Alg, Signature, Format, Combo, Threshold, CheckValue}
 use Rattle.answer.specs.declared.Answer.{Answer}
 use Rattle.answer.specs.declared.Answer.the-variants.{Done, Refused}
 use Rattle.answer.specs.declared.HeaderAnswer.{HeaderAnswer}
@@ -17,7 +17,7 @@ row KeyOrNonceSize = refused 1
 row DirectoryId = refused 2
 row Name = refused 3
 row Length = refused 4
-row Text = refused 5
+row (Text i) = refusedAt 5 i
 row Range = refused 6
 row Room = refused 7
 row RepeatedNonce = refused 8
@@ -26,6 +26,7 @@ row (Chunk i) = refusedAt 10 i
 row HashName = refused 11
 row SyntheticIv = refused 12
 row Label = refused 13
+row (Segment i) = refusedAt 13 i
 row Alg = refused 14
 row Signature = refused 15
 row Format = refused 16

@@ -3,13 +3,14 @@ ghost use mathlib.Core.Path.{_≡_};
 ghost use Rattle.octets.specs.Rows.{number};
 ghost use Rattle.answer.specs.Meaning.{row};
 
-/// Why a call was refused, by rows 1 to 18 and 20. `Chunk` has the number of the chunk.
+/// Why a call was refused, by rows 1 to 18 and 20. `Text` has the place where the text is broken, and `Chunk` the number of the chunk. Row 13 is
+/// `Segment`, with the place in the label, where a segment is broken, and `Label` otherwise.
 pub enum Refusal {
     KeyOrNonceSize,
     DirectoryId,
     Name,
     Length,
-    Text,
+    Text(u64),
     Range,
     Room,
     RepeatedNonce,
@@ -18,6 +19,7 @@ pub enum Refusal {
     HashName,
     SyntheticIv,
     Label,
+    Segment(u64),
     Alg,
     Signature,
     Format,
@@ -55,7 +57,7 @@ pub fn row_number(refusal: Refusal) -> u32
         Refusal::DirectoryId => 2,
         Refusal::Name => 3,
         Refusal::Length => 4,
-        Refusal::Text => 5,
+        Refusal::Text(_) => 5,
         Refusal::Range => 6,
         Refusal::Room => 7,
         Refusal::RepeatedNonce => 8,
@@ -64,6 +66,7 @@ pub fn row_number(refusal: Refusal) -> u32
         Refusal::HashName => 11,
         Refusal::SyntheticIv => 12,
         Refusal::Label => 13,
+        Refusal::Segment(_) => 13,
         Refusal::Alg => 14,
         Refusal::Signature => 15,
         Refusal::Format => 16,

@@ -61,7 +61,9 @@ fn write_refusal(refusal: Refusal, line: &mut [u8]) -> usize
 {
     let number = row_number(refusal) as u64;
     match refusal {
-        Refusal::Chunk(i) => write_refused_at(number, i, line),
+        Refusal::Text(i) | Refusal::Chunk(i) | Refusal::Segment(i) => {
+            write_refused_at(number, i, line)
+        }
         _ => write_refused(number, line),
     }
 }

@@ -1,6 +1,6 @@
 -- What the check of a base64url text answers.
 -- Assumes nothing.
-use Prim.Native.Nat.{ℕ, _+_, _-_, _*_, _/_, _%_, _≤_, _<_}
+use Prim.Native.Nat.{ℕ, _-_, _*_, _/_, _%_, _≤_, _<_}
 use mathlib.Core.Path.{_≡_, refl, sym, ap, _∙_}
 use mathlib.Core.List.{List, map}
 use mathlib.Core.Bool.{Bool, true, false, _&&_}
@@ -9,30 +9,27 @@ use lib.Dec.{eqb}
 use lib.ListN.{length, take, drop, getD, length-map}
 use Rattle.octets.proofs.Lists.{map-drop, list-tab}
 use Rattle.encoding.specs.Base64url.{canonical, value, known, padLength, body, whole, accepted, decoded}
+use Rattle.encoding.specs.Broken.{brokenAt}
 use Rattle.encoding.specs.Measures.{answer, measureOf}
 use Rattle.encoding.specs.declared.base64url.Measure.the-variants.{Accepted, Refused}
 use Rattle.encoding.proofs.Sextets.{canonical-drop}
-use Rattle.encoding.proofs.Characters.{known-all, known-not}
+use Rattle.encoding.proofs.Characters.{known-all}
 use Rattle.encoding.proofs.Padding.{bare-body}
-use Rattle.encoding.proofs.Laws.{decoded-length}
 
--- A text that the check refuses is not accepted.
-pub refused-text : (p : Bool) (t : List ℕ) → measureOf p t ≡ Refused → accepted p t ≡ false
+-- A text that the check refuses is not accepted, and broken at that place.
+pub refused-text : (p : Bool) (t : List ℕ) (q : ℕ) → measureOf p t ≡ Refused q → (accepted p t ≡ false) × (q ≡ brokenAt p t)
 unfolding measureOf
-refused-text p t e = go (accepted p t) e
+refused-text p t q e = go (accepted p t) e
   where
-    go : (b : Bool) → answer b (length (decoded p t)) ≡ Refused → b ≡ false
+    go : (b : Bool) → answer b (length (decoded p t)) (brokenAt p t) ≡ Refused q → (b ≡ false) × (q ≡ brokenAt p t)
     go true e = let z : _≡_ {A = ℕ} 0 1 = cc in absurd (omega arith)
-    go false e = refl
+    go false e = (refl, cc)
 
 -- ---- a text without padding
 
 bare : (t : List ℕ) → accepted false t ≡ (known t && canonical (map value t))
 unfolding accepted whole
 bare t = rw (bare-body t)
-
-pub unknown : (t : List ℕ) (i : ℕ) → i < length t → 64 ≤ value (getD t i 0) → false ≡ accepted false t
-unknown t i h k = sym (bare t ∙ ap (λ (b : Bool). b && canonical (map value t)) (known-not t i h k))
 
 -- All characters are known: then the last ones decide.
 pub by-end : (t : List ℕ) (r : Bool) → ((i : ℕ) → i < length t → value (getD t i 0) < 64) → r ≡ canonical (map value (drop (4 * (length t / 4)) t)) → r ≡ accepted false t
@@ -63,7 +60,7 @@ module _ (t : List ℕ) where
 
 -- ---- any text
 
-pub refused : (p : Bool) (t : List ℕ) → accepted p t ≡ false → Refused ≡ measureOf p t
+pub refused : (p : Bool) (t : List ℕ) → accepted p t ≡ false → Refused (brokenAt p t) ≡ measureOf p t
 unfolding measureOf
 refused p t e = rw e
 
@@ -84,6 +81,3 @@ module _ (p : Bool) (t : List ℕ) (r : ℕ) (e : r ≡ padLength p t) where
   pub body-is : take (length t - r) t ≡ body p t
   unfolding body
   body-is = ap (λ (k : ℕ). take (length t - k) t) e
-
-  pub body-measure : (length t - r) / 4 * 3 + (length t - r) % 4 * 3 / 4 ≡ length (decoded p t)
-  body-measure = omega (arith, decoded-length p t)

@@ -36,7 +36,7 @@ value-letter : (v : ℕ) → v < 64 → value (letter v) ≡ v
 unfolding value letter alphabet place
 value-letter v h = eqb→eq (value (letter v)) v (all-at (λ k. eqb (value (letter k)) k) 64 tt v h)
 
-value-padding : value padCharacter ≡ 64
+pub value-padding : value padCharacter ≡ 64
 unfolding value alphabet place
 value-padding = refl
 

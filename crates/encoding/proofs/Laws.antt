@@ -9,6 +9,7 @@ use lib.ListN.{length, length-map}
 use lib.Seq.{length-take-le}
 use Rattle.octets.proofs.Equality.{and-true}
 use Rattle.encoding.specs.Base64url.{sextets, canonical, letter, value, known, pad, padLength, body, whole, encode, accepted, decoded, encodedLength}
+use Rattle.encoding.specs.Broken.{brokenAt}
 use Rattle.encoding.specs.Measures.{answer, measureOf}
 use Rattle.encoding.specs.declared.base64url.Measure.the-variants.{Accepted}
 use Rattle.encoding.specs.Statements.{EncodedDecodes, DecodedWasEncoded, EncodedLength, DecodedLength, AcceptedIsMeasured, MeasuredIsAccepted}
@@ -53,12 +54,12 @@ decoded-length p t =
 
 pub accepted-is-measured : AcceptedIsMeasured
 unfolding measureOf
-accepted-is-measured p t h = ap (λ (b : Bool). answer b (length (decoded p t))) h
+accepted-is-measured p t h = ap (λ (b : Bool). answer b (length (decoded p t)) (brokenAt p t)) h
 
 pub measured-is-accepted : MeasuredIsAccepted
 unfolding measureOf
 measured-is-accepted p t n h = go (accepted p t) refl h
   where
-    go : (b : Bool) → accepted p t ≡ b → answer b (length (decoded p t)) ≡ Accepted n → (accepted p t ≡ true) × (length (decoded p t) ≡ n)
+    go : (b : Bool) → accepted p t ≡ b → answer b (length (decoded p t)) (brokenAt p t) ≡ Accepted n → (accepted p t ≡ true) × (length (decoded p t) ≡ n)
     go true e h = (e, cc)
     go false e h = (cc, cc)

@@ -5,5 +5,11 @@ pub mod Laws
 pub mod Groups
 pub mod Texts
 pub mod Answers
+pub mod Closing
+pub mod Padded
+pub mod Walk
+pub mod Places
+pub mod Leading
+pub mod Fitting
 pub mod Quintets
 pub mod Vectors

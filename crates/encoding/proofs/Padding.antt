@@ -68,21 +68,22 @@ cut t q e =
     rw (e, l) (take-at t q (length t) refl)
 
 -- Which remainder a length leaves.
-remainders : (n : ℕ) {P : Type 0} → (n % 4 ≡ 1 → ⊥) → (n % 4 ≡ 0 → P) → (n % 4 ≡ 2 → P) → (n % 4 ≡ 3 → P) → P
-remainders n {P} ne a b d = go (n % 4) refl (omega arith)
+pub four-ways : (n : ℕ) {P : Type 0} → (n % 4 ≡ 0 → P) → (n % 4 ≡ 1 → P) → (n % 4 ≡ 2 → P) → (n % 4 ≡ 3 → P) → P
+four-ways n {P} a b c d = go (n % 4) refl (omega arith)
   where
     go : (r : ℕ) → n % 4 ≡ r → r < 4 → P
     go zero e h = a e
-    go (suc zero) e h = absurd (ne e)
-    go (suc (suc zero)) e h = b e
+    go (suc zero) e h = b e
+    go (suc (suc zero)) e h = c e
     go (suc (suc (suc zero))) e h = d e
     go (suc (suc (suc (suc r)))) e h = absurd (omega arith)
 
 pub body-pad : (p : Bool) (t : List ℕ) → known t ≡ true → (length t % 4 ≡ 1 → ⊥) → body p (pad p t) ≡ t
 unfolding pad
 body-pad true t h ne =
-    remainders (length t) ne
+    four-ways (length t)
     (λ r. rw (r, append-nil t) (rw append-nil at (cut t [] (rw append-nil (none-added t h)))))
+    (λ r. absurd (ne r))
     (λ r. rw r (cut t (padCharacter ∷ padCharacter ∷ []) (two-added t h)))
     (λ r. rw r (cut t (padCharacter ∷ []) (one-added t h (omega arith))))
 body-pad false t h ne = bare-body t

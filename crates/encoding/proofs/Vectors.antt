@@ -1,5 +1,6 @@
 -- RFC 4648, section 10, worked out from the definitions: "", "f", "fo", .. "foobar" in base64url, padded and not, and "fooba" in
--- base32. Then the two letters in which base64url differs from base64, and texts that are refused.
+-- base32. Then the two letters in which base64url differs from base64, texts that are refused, and places of
+-- broken ones.
 -- Assumes nothing.
 use Prim.Native.Nat.{ℕ}
 use mathlib.Core.Bool.{Bool, true, false}
@@ -8,6 +9,7 @@ use mathlib.Core.Path.{_≡_, refl}
 use Rattle.octets.specs.BigEndian.{be}
 use Rattle.encoding.specs.Base64url as base64url
 use Rattle.encoding.specs.Base32 as base32
+use Rattle.encoding.specs.Broken.{fewestBytes, padFits, fits, stopFrom, stop, brokenAt}
 
 -- b is encoded to t, which is accepted, and decodes to b.
 abbrev Encodes : Bool → List ℕ → List ℕ → Type 0
@@ -72,3 +74,37 @@ refused = (refl, refl, refl, refl, refl, refl, refl, refl, refl, refl, refl, ref
 base32-fooba : base32.encode (be 5 0x666f6f6261) ≡ be 8 0x4d5a585736595442
 unfolding be base32.quintets base32.alphabet base32.letter base32.encode
 base32-fooba = refl
+
+-- ---- places
+
+-- The text is refused, and its place is q.
+abbrev Breaks : Bool → List ℕ → ℕ → Type 0
+Breaks p t q = (base64url.accepted p t ≡ false) × (brokenAt p t ≡ q)
+
+-- "Zg", "Zg=", "Zh==", "Zm9=", "Zg==Zg==", "Zg=a", "Z===", "====", "Zm9+", "Z", "Zm9v=".
+places-padded :
+    Breaks true (be 2 0x5a67) 2
+    × Breaks true (be 3 0x5a673d) 3
+    × Breaks true (be 4 0x5a683d3d) 2
+    × Breaks true (be 4 0x5a6d393d) 3
+    × Breaks true (be 8 0x5a673d3d5a673d3d) 4
+    × Breaks true (be 4 0x5a673d61) 3
+    × Breaks true (be 4 0x5a3d3d3d) 1
+    × Breaks true (be 4 0x3d3d3d3d) 0
+    × Breaks true (be 4 0x5a6d392b) 3
+    × Breaks true (be 1 0x5a) 1
+    × Breaks true (be 5 0x5a6d39763d) 4
+unfolding be base64url.canonical base64url.alphabet base64url.place base64url.value base64url.known base64url.padLength base64url.body base64url.whole base64url.accepted fewestBytes padFits fits stopFrom stop brokenAt
+places-padded = ((refl, refl), (refl, refl), (refl, refl), (refl, refl), (refl, refl), (refl, refl), (refl, refl), (refl, refl), (refl, refl), (refl, refl), (refl, refl))
+
+-- "Z", "Zh", "Zm9", "Zg==", "Zm9vZ", "Zm9v.", "+".
+places-unpadded :
+    Breaks false (be 1 0x5a) 1
+    × Breaks false (be 2 0x5a68) 2
+    × Breaks false (be 3 0x5a6d39) 3
+    × Breaks false (be 4 0x5a673d3d) 2
+    × Breaks false (be 5 0x5a6d39765a) 5
+    × Breaks false (be 5 0x5a6d39762e) 4
+    × Breaks false (be 1 0x2b) 0
+unfolding be base64url.canonical base64url.alphabet base64url.place base64url.value base64url.known base64url.padLength base64url.body base64url.whole base64url.accepted fewestBytes padFits fits stopFrom stop brokenAt
+places-unpadded = ((refl, refl), (refl, refl), (refl, refl), (refl, refl), (refl, refl), (refl, refl), (refl, refl))

@@ -5,6 +5,7 @@ ghost use mathlib.Core.Bool.{true};
 ghost use Prim.Native.Nat.{_<_};
 ghost use lib.ListN.{length, getD};
 ghost use Rattle.encoding.specs.Base64url.{alphabet, letter, value, known};
+ghost use Rattle.encoding.specs.Leading.{Leading};
 ghost use Rattle.encoding.specs.ValueTable.{valueTable};
 
 const LETTERS: [u8; 64] = [
@@ -368,4 +369,19 @@ pub fn value_at(t: &[u8; 256], text: &[u8], i: usize) -> u8
     ensures { λ r. ⌜ (r ≡ value (getD (now (text .entry)) i 0)) × (r < 64) ⌝ }
 {
     value_of(t, text[i])
+}
+
+// How many characters of a text, from its start on, are of the alphabet.
+pub fn leading(t: &[u8; 256], text: &[u8]) -> usize
+    requires { ⌜ now t ≡ valueTable ⌝ }
+    ensures { λ r. ⌜ Leading r (now (text .entry)) ⌝ }
+{
+    let mut i = 0;
+    while i < text.len() {
+        if 64 <= value_of(t, text[i]) {
+            return i;
+        }
+        i += 1;
+    }
+    i
 }

@@ -1,9 +1,11 @@
 // RFC 4648, section 5: base64url, padded and not.
+use crate::alphabet::leading;
 use crate::alphabet::letter_of;
 use crate::alphabet::letters;
 use crate::alphabet::value_at;
 use crate::alphabet::value_of;
 use crate::alphabet::values;
+use crate::broken::stop_from;
 ghost use mathlib.Core.Path.{_≡_};
 ghost use mathlib.Core.Bool.{true, false};
 ghost use mathlib.Core.List.{[], _∷_, map};
@@ -11,13 +13,14 @@ ghost use Prim.Native.Nat.{_<_, _≤_, _+_, _*_, _/_, _^_};
 ghost use lib.ListN.{length, take};
 ghost use Rattle.octets.specs.Bytes.{placed};
 ghost use Rattle.encoding.specs.Base64url as spec;
+ghost use Rattle.encoding.specs.Leading.{Leading};
 ghost use Rattle.encoding.specs.Measures.{measureOf};
 ghost use Rattle.encoding.specs.ValueTable.{valueTable};
 
-// How many bytes a text stands for, or that it's refused.
+// How many bytes a text stands for, or the place where it is broken.
 pub enum Measure {
     Accepted(usize),
-    Refused,
+    Refused(usize),
 }
 
 // How many characters n bytes are encoded to.
@@ -163,34 +166,49 @@ fn canonical_end(t: &[u8; 256], text: &[u8]) -> bool
     value_of(t, text[2]) % 4 == 0
 }
 
-// Is a text without padding accepted?
-fn accepted(text: &[u8]) -> bool
-    ensures { λ r. ⌜ r ≡ spec.accepted false (now (text .entry)) ⌝ }
+// Is the text accepted, which begins with n characters of the alphabet?
+fn accepted(t: &[u8; 256], text: &[u8], n: usize, padded: bool) -> bool
+    requires { ⌜ now t ≡ valueTable ⌝ }
+    requires { ⌜ Leading n (now text) ⌝ }
+    ensures { λ r. ⌜ r ≡ spec.accepted padded (now (text .entry)) ⌝ }
 {
-    let t = values();
-    let mut i = 0;
-    while i < text.len() {
-        if 64 <= value_of(&t, text[i]) {
-            return false;
-        }
-        i += 1;
+    if !whole(text, padded) {
+        return false;
     }
-    let last = 4 * (text.len() / 4);
-    canonical_end(&t, &text[last..])
+    if n != text.len() - pad_length(text, padded) {
+        return false;
+    }
+    let last = 4 * (n / 4);
+    canonical_end(t, &text[last..n])
 }
 
-// How many bytes the text stands for, or that it's refused.
+// How many bytes n characters of the alphabet hold.
+pub fn decoded_length(n: usize) -> usize
+    ensures { λ r. ⌜ r ≡ n * 3 / 4 ⌝ }
+{
+    n / 4 * 3 + n % 4 * 3 / 4
+}
+
+// What `check` answers of a text that begins with n characters of the alphabet. A text has no more bytes than characters.
+pub fn measure_from(t: &[u8; 256], text: &[u8], n: usize, padded: bool) -> Measure
+    requires { ⌜ now t ≡ valueTable ⌝ }
+    requires { ⌜ Leading n (now text) ⌝ }
+    ensures { λ r. ⌜ r ≡ measureOf padded (now (text .entry)) ⌝ }
+{
+    if accepted(t, text, n, padded) {
+        return Measure::Accepted(decoded_length(n));
+    }
+    Measure::Refused(stop_from(t, text, n, padded, 0, text.len()))
+}
+
+// How many bytes the text stands for, or the place where it is broken: the first character at which no well-formed text can go on, or the length
+// where it only ends too early.
 pub fn check(text: &[u8], padded: bool) -> Measure
     ensures { λ r. ⌜ r ≡ measureOf padded (now (text .entry)) ⌝ }
 {
-    if !whole(text, padded) {
-        return Measure::Refused;
-    }
-    let n = text.len() - pad_length(text, padded);
-    if accepted(&text[..n]) {
-        return Measure::Accepted(n / 4 * 3 + n % 4 * 3 / 4);
-    }
-    Measure::Refused
+    let t = values();
+    let n = leading(&t, text);
+    measure_from(&t, text, n, padded)
 }
 
 // Writes the bytes of the first four characters of the text to the front of out.

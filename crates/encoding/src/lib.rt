@@ -1,4 +1,5 @@
 // RFC 4648: base64url and base32.
-mod alphabet;
+pub mod alphabet;
 pub mod base32;
 pub mod base64url;
+pub mod broken;

@@ -9,11 +9,13 @@ use lib.Dec.{eqb}
 use lib.ListN.{length}
 use borrow.Author.Tests.{eq-eqb, ne-eqb}
 use Rattle.octets.specs.Bytes.{same}
-use Rattle.octets.specs.Rows.{done, refused}
+use Rattle.octets.specs.Rows.{done, refused, refusedAt}
 use Rattle.octets.proofs.Rows.{first-answers, none-answers}
 use Rattle.threshold.specs.Threshold.{thresholdRight}
 use Rattle.hmac.specs.Hmac.{hmacSha256}
-use Rattle.label_spec.specs.Label.{rawKeySize, hs256, comboNumber, Reading, reading, said, isEight, isThreshold, openLabelRows, openLabel}
+use Rattle.label_spec.specs.Label.{rawKeySize, hs256, comboNumber, Reading, reading, said, isEight, isThreshold, threeParts, segmentsRight, brokenSegment, row13, unreadable, openLabelRows, openLabel}
+use Rattle.label_spec.proofs.Broken.{unbroken}
+use Rattle.utf8.proofs.Options.{never}
 use Rattle.label.specs.Says.{thresholdIn}
 
 -- No number stands for one that is no threshold, since 0 is none.
@@ -32,6 +34,11 @@ a-threshold n h = go (isThreshold n) refl h
     go true p h = (p, refl)
     go false p h = absurd (h refl)
 
+-- Without a place, either way.
+neither : (x : Bool) → row13 (cond x none none) ≡ refused 13
+neither true = refl
+neither false = refl
+
 module _ (key l : List ℕ) where
   -- What the opening returns on success.
   abbrev returned : List ℕ
@@ -45,9 +52,36 @@ module _ (key l : List ℕ) where
     key-right : not (eqb (length key) rawKeySize) ≡ false
     key-right = rw (eq-eqb (length key) rawKeySize k)
 
-    pub row-13 : reading l ≡ none → refused 13 ≡ openLabel key l
+    row-13 : reading l ≡ none → unreadable l ≡ openLabel key l
     unfolding openLabel openLabelRows
     row-13 e = sym (first-answers (openLabelRows key l) (done returned) 1 (key-right, rw e))
+
+    wrong : segmentsRight l ≡ false → unreadable l ≡ openLabel key l
+    unfolding reading
+    wrong e = row-13 (rw e)
+
+    -- The size or the dots are wrong.
+    pub no-parts : threeParts l ≡ false → refused 13 ≡ openLabel key l
+    unfolding segmentsRight unreadable
+    no-parts e = (let z : unreadable l ≡ refused 13 = rw e in sym z) ∙ wrong (rw e)
+
+    -- They are right, and a segment is broken at p.
+    pub broken-at : (p : ℕ) → (threeParts l ≡ true) × (brokenSegment l ≡ some p) → refusedAt 13 p ≡ openLabel key l
+    unfolding unreadable
+    broken-at p k =
+        let z : unreadable l ≡ refusedAt 13 p = rw (k .0, k .1) in
+        sym z ∙ wrong (go (segmentsRight l) refl)
+      where
+        go : (b : Bool) → segmentsRight l ≡ b → b ≡ false
+        go true e = never (sym (unbroken l e) ∙ k .1)
+        go false e = refl
+
+    -- The segments are right, and nothing is said.
+    pub unread : segmentsRight l ≡ true → reading l ≡ none → refused 13 ≡ openLabel key l
+    unfolding unreadable
+    unread h e =
+        let z : unreadable l ≡ refused 13 = rw (unbroken l h) (neither (threeParts l)) in
+        sym z ∙ row-13 e
 
     module _ (q : Reading) (e : reading l ≡ some q) where
       said-is : said l ≡ q

@@ -16,6 +16,7 @@ use Rattle.label_spec.specs.Rules.{signedText, labelText, Reads, Unsigne
 use Rattle.label_spec.specs.Statements.{Opens}
 use Rattle.label_spec.proofs.Reading.{reads-exactly}
 use Rattle.label_spec.proofs.Rows.{said-is, of-said, gcm-number, ctrmac-number, label-matches}
+use Rattle.label_spec.proofs.Broken.{unreadable-number}
 
 two-numbers : {a b c d : ℕ} → done (a ∷ b ∷ []) ≡ done (c ∷ d ∷ []) → (a ≡ c) × (b ≡ d)
 two-numbers e = (cc, cc)
@@ -28,7 +29,7 @@ module _ (key l : List ℕ) where
 
   all-met : (n : List ℕ) → openLabel key l ≡ done n → Met (openLabelRules key l)
   unfolding openLabel openLabelRows
-  all-met n e = met-exactly (openLabelRows key l) (openLabelRules key l) (label-matches key l) .0 (done-none (openLabelRows key l) _ n refl e)
+  all-met n e = met-exactly (openLabelRows key l) (openLabelRules key l) (label-matches key l) .0 (done-none (openLabelRows key l) _ n (rw (unreadable-number l)) e)
 
   -- ---- what opens
 

@@ -3,24 +3,26 @@
 use Prim.Native.Nat.{ℕ}
 use mathlib.Core.Path.{_≡_, refl, sym, ap, _∙_, subst}
 use mathlib.Core.Bool.{Bool, true, false, cond, not}
-use mathlib.Core.List.{List, []}
+use mathlib.Core.List.{List, [], _∷_}
 use mathlib.Core.Option.{Option, none, some}
 use mathlib.Core.Logic.{_↔_, _⊎_, inl, inr, ⊎-elim}
 use native.Mathlib.Omega.{arith}
-use lib.Dec.{eqb}
+use lib.Dec.{eqb, lit≤}
 use lib.ListN.{length}
 use Rattle.octets.specs.Bytes.{same}
+use Rattle.octets.specs.Rows.{number}
 use Rattle.octets.proofs.Equality.{true-false, same-eq}
 use Rattle.octets.proofs.Tests.{eqb-exactly, both-exactly, not-fails, same-exactly}
-use Rattle.octets.proofs.Rows.{Matches}
+use Rattle.octets.proofs.Rows.{Matches, by-number}
 use Rattle.hmac.specs.Hmac.{hmacSha256}
 use Rattle.hmac.proofs.Laws.{mac-bytes}
 use Rattle.threshold.specs.Threshold.{thresholdRight, ThresholdFits}
 use Rattle.threshold.proofs.Exactly.{threshold-exactly}
 use Rattle.utf8.proofs.Options.{never}
-use Rattle.label_spec.specs.Label.{rawKeySize, hs256, sivGcmName, sivCtrmacName, comboNumber, Reading, reading, isSome, orNothing, said, isEight, isThreshold, openLabelRows}
+use Rattle.label_spec.specs.Label.{rawKeySize, hs256, sivGcmName, sivCtrmacName, comboNumber, Reading, reading, isSome, orNothing, said, isEight, isThreshold, unreadable, openLabelRows, openLabel}
 use Rattle.label_spec.specs.Rules.{Says, Unsigned, openLabelRules}
 use Rattle.label_spec.proofs.Reading.{reads-exactly}
+use Rattle.label_spec.proofs.Broken.{unreadable-number}
 
 -- ---- what is said
 
@@ -137,3 +139,8 @@ label-matches key l = (
     ),
   ),
 )
+
+-- An answer with the number 13 is that of row 13.
+pub by-row-13 : (key l : List ℕ) → number (openLabel key l) ≡ 13 → openLabel key l ≡ unreadable l
+unfolding openLabel openLabelRows
+by-row-13 key l e = by-number (openLabelRows key l) (rw (unreadable-number l)) (comboNumber (said l .combo) ∷ said l .threshold .1 ∷ []) 1 (lit≤ tt) (e ∙ sym (unreadable-number l))

@@ -9,7 +9,7 @@ use lib.ListN.{replicate}
 use Rattle.octets.specs.BigEndian.{be}
 use Rattle.octets.specs.Rows.{refused}
 use Rattle.json.specs.Quoted.{ascii}
-use Rattle.label_spec.specs.Label.{hs256, sivGcmName, sivCtrmacName, Reading, algOf, payloadOf, reading, openLabel}
+use Rattle.label_spec.specs.Label.{hs256, sivGcmName, sivCtrmacName, Reading, algOf, payloadOf, reading, row13, openLabel}
 
 -- For each text f gives what stands beside it.
 abbrev pub Gives : {A : Type 0} → (List ℕ → Option A) → List (List ℕ × A) → Type 0
@@ -219,6 +219,29 @@ FirstRows =
     × (openLabel (replicate 64 0) (ascii "eyJhbGciOiJub25lIn0.W10.") ≡ refused 13)
     × (openLabel (replicate 64 0) (ascii "eyJhbGciOiJub25lIn0.eyJmb3JtYXQiOjksImNpcGhlckNvbWJvIjoiIiwic2hvcnRlbmluZ1RocmVzaG9sZCI6MH0.") ≡ refused 14)
 
+-- Under a key of zeros each label gives row 13, with the place beside it or without one.
+abbrev pub Row13 : List (List ℕ × Option ℕ) → Type 0
+Row13 [] = Unit {0}
+Row13 (p ∷ texts) = (openLabel (replicate 64 0) (p .0) ≡ row13 (p .1)) × Row13 texts
+
+-- Characters outside the alphabet, padding among them, in each segment; one character too few, behind pad bits that are not zero too, so that only more characters could help;
+-- two broken segments, of which the first counts, also before a fault of JSON. Other numbers of dots, and 4,097 bytes, before any segment; and faults of JSON alone.
+abbrev pub places : List (List ℕ × Option ℕ)
+places =
+    (ascii " " ++ shortSigned ++ ascii ".fQ", some 0)
+    ∷ (ascii "eyJhbGciOiJIUzI1NiIgfR." ++ shortPayload ++ ascii ".fQ", some 22)
+    ∷ (shortHeader ++ ascii ".fQ==.fQ", some 23)
+    ∷ (shortSigned ++ ascii ".fQA+", some 108)
+    ∷ (shortSigned ++ ascii ".A", some 106)
+    ∷ (ascii "W10." ++ ascii "A.+", some 5)
+    ∷ (ascii "A.+.fQ", some 1)
+    ∷ (ascii "W10.W10.+", some 8)
+    ∷ (ascii "+.+", none)
+    ∷ (ascii "+.+.+.+", none)
+    ∷ (ascii "+.+." ++ replicate 4093 0x41, none)
+    ∷ (shortHeader ++ ascii ".W10.fQ", none)
+    ∷ []
+
 abbrev pub Examples : Type 0
 Examples =
     Gives algOf headers
@@ -228,3 +251,4 @@ Examples =
     × Gives reading labels
     × GivesNone reading noLabels
     × FirstRows
+    × Row13 places

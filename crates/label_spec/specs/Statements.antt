@@ -8,13 +8,13 @@ use mathlib.Core.List.{List, [], _∷_}
 use mathlib.Core.Option.{some}
 use lib.ListN.{length}
 use Rattle.octets.specs.Bytes.{Bytes}
-use Rattle.octets.specs.Rows.{done, refused, AnswersBy, numbers}
+use Rattle.octets.specs.Rows.{done, refused, refusedAt, number, AnswersBy, numbers}
 use Rattle.hmac.specs.Hmac.{hmacSha256}
 use Rattle.threshold.specs.Threshold.{ThresholdFits}
 use Rattle.json.specs.Members.{text, whole, Member, given}
 use Rattle.json.specs.Objects.{ObjectText}
 use Rattle.label_spec.specs.Label.{algName, formatName, comboName, thresholdName, hs256, sivGcmName, sivCtrmacName, Reading, comboNumber, reading, said, openLabel}
-use Rattle.label_spec.specs.Rules.{signedText, labelText, Reads, Unsigned, openLabelRules}
+use Rattle.label_spec.specs.Rules.{signedText, labelText, Reads, Unsigned, BrokenSegment, openLabelRules}
 
 -- It says HS256, and its signature is right.
 abbrev pub Signed : List ℕ → Reading → Type 0
@@ -38,13 +38,21 @@ ReadsExactly = (l : List ℕ) (r : Reading) → (reading l ≡ some r) ↔ Reads
 abbrev pub RowsOfReadings : Type 0
 RowsOfReadings =
     (key l : List ℕ) → length key ≡ 64
-    → ((openLabel key l ≡ refused 13) ↔ ((r : Reading) → Reads l r → ⊥))
+    → ((number (openLabel key l) ≡ 13) ↔ ((r : Reading) → Reads l r → ⊥))
     × ((r : Reading) → Reads l r
     → ((openLabel key l ≡ refused 14) ↔ (r .alg ≡ hs256 → ⊥))
     × ((openLabel key l ≡ refused 15) ↔ ((r .alg ≡ hs256) × (hmacSha256 key (r .signed) ≡ r .signature → ⊥)))
     × ((openLabel key l ≡ refused 16) ↔ (Signed key r × (Unsigned (r .format) (λ n. n ≡ 8) → ⊥)))
     × ((openLabel key l ≡ refused 17) ↔ (Signed key r × Unsigned (r .format) (λ n. n ≡ 8) × (KnownCombo r → ⊥)))
     × ((openLabel key l ≡ refused 18) ↔ (Signed key r × Unsigned (r .format) (λ n. n ≡ 8) × KnownCombo r × (Unsigned (r .threshold) ThresholdFits → ⊥))))
+
+-- Row 13 bears the place p exactly when the raw key has 64 bytes and, size and dots being right, the first broken segment is so at p. It bears none exactly when the
+-- raw key has 64 bytes, the label says nothing, and no segment is broken or the size or the dots are wrong.
+abbrev pub SegmentPlaces : Type 0
+SegmentPlaces =
+    (key l : List ℕ)
+    → ((p : ℕ) → (openLabel key l ≡ refusedAt 13 p) ↔ ((length key ≡ 64) × BrokenSegment l p))
+    × ((openLabel key l ≡ refused 13) ↔ ((length key ≡ 64) × ((r : Reading) → Reads l r → ⊥) × ((p : ℕ) → BrokenSegment l p → ⊥)))
 
 -- A label says one thing only.
 abbrev pub OneReading : Type 0

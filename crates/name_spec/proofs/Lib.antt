@@ -1,6 +1,9 @@
 pub mod Texts
+pub mod Broken
 pub mod Ends
 pub mod Rules
 pub mod Openings
 pub mod Longest
+pub mod TextPlaces
+pub mod Examples
 pub mod Demands

@@ -2,24 +2,25 @@
 -- Assumes nothing.
 use Prim.Native.Nat.{ℕ, zero, suc, _≤_}
 use mathlib.Core.Path.{_≡_, refl, sym, ap, _∙_}
-use mathlib.Core.Bool.{true}
+use mathlib.Core.Bool.{true, _&&_}
 use mathlib.Core.Logic.{_↔_}
 use mathlib.Core.List.{List, [], _∷_}
 use native.Mathlib.Omega.{arith}
 use lib.ListN.{length, replicate, length-append, length-replicate}
-use lib.Dec.{lit≤, lit<}
+use lib.Dec.{leb, lit≤, lit<}
+use borrow.Author.Tests.{le-leb}
 use Rattle.octets.proofs.Bytes.{below-replicate}
-use Rattle.octets.proofs.Equality.{true-false}
+use Rattle.octets.proofs.Equality.{iff, and-true, true-and, true-false}
 use Rattle.octets.proofs.Rows.{answer-exactly}
 use Rattle.encoding.specs.Base64url as base64url
 use Rattle.encoding.proofs.Laws.{encoded-length}
 use Rattle.utf8.specs.ProperText.{lacks}
 use Rattle.utf8.proofs.ProperText.{lacks-exactly, ascii-text}
-use Rattle.name_spec.specs.Names.{fullEnd, fullLength, nameLength}
+use Rattle.name_spec.specs.Names.{fullEnd, fullLength, nameLength, textRight}
 use Rattle.name_spec.specs.Calls.{writtenLengths, writeNameRows, writeName, openTextRows, openNameRows, openName, openLongNameRows, openLongName}
 use Rattle.name_spec.specs.Rules.{NameSize, NameFits, TextForm}
 use Rattle.name_spec.specs.Statements.{LongestNames, RoomForAny}
-use Rattle.name_spec.proofs.Texts.{length-full, text-lengths}
+use Rattle.name_spec.proofs.Texts.{length-full, text-lengths, form}
 use Rattle.name_spec.proofs.Rules.{write-matches, open-matches, open-long-matches}
 
 -- ---- lengths
@@ -34,6 +35,13 @@ text-limit t f =
     let s = f .0 in
     let l = ap length (sym (f .4)) ∙ length-append (base64url.encode true s) fullEnd in
     omega (arith, l, encoded-length true s, f .3)
+
+-- So this many characters are no limit to texts in the text form.
+pub text-within : (t : List ℕ) → (textRight t && leb (length t) 1388) ≡ textRight t
+text-within t =
+    iff (textRight t && leb (length t) 1388) (textRight t)
+    (λ e. and-true (textRight t) (leb (length t) 1388) e .0)
+    (λ e. true-and (textRight t) (leb (length t) 1388) e (le-leb (length t) 1388 (text-limit t (form t e))))
 
 name-limit : (t : List ℕ) → TextForm t → nameLength t ≤ 1020
 name-limit t f = let n = ap nameLength (sym (f .4)) ∙ text-lengths .1 (f .0) (f .1) in omega (arith, n, f .3)

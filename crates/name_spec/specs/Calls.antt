@@ -7,11 +7,12 @@ use mathlib.Core.List.{List, [], _∷_}
 use lib.ListN.{length}
 use lib.Dec.{ltb}
 use Rattle.octets.specs.Bytes.{filled, same}
-use Rattle.octets.specs.Rows.{Outcome, done, refused, Row, answer, End, ending, leaves}
+use Rattle.octets.specs.Rows.{Outcome, done, refused, refusedAt, Row, answer, End, ending, leaves}
 use Rattle.frame.specs.Frame.{masterKeysRight}
 use Rattle.utf8.specs.ProperText.{properText}
 use Rattle.threshold.specs.Threshold.{thresholdRight}
 use Rattle.name_spec.specs.Names.{idRight, nameRight, path, fullName, fullLength, hashName, short, storedName, textRight, nameLength, nameOf, nameGood}
+use Rattle.name_spec.specs.Places.{longestFull, textBrokenAt}
 
 -- ---- lengths of answers
 
@@ -102,24 +103,24 @@ module _ (threshold : ℕ) (enc mac id : List ℕ) where
       nameEnding (answer (writeNameRows name (length stored) (length full)) (done (writtenLengths threshold n)))
       (filled (storedName threshold f) (storedLength threshold n) stored) (cond (short threshold n) full (filled f n full)) stored full
 
-  -- opening the text t as a name that is stored as it is: the first rows, the text form broken or more characters than the threshold (5), the
-  -- buffer too short (7), and the last rows of both openers
+  -- opening the text t as a name that is stored as it is: the first rows, the text form broken or more characters than the threshold (5,
+  -- with the place), the buffer too short (7), and the last rows of both openers
   unfoldable pub openNameRows : List ℕ → ℕ → List Row
   openNameRows t room =
       nameRows
-      ((not (textRight t) || not (short threshold (length t)), refused 5)
+      ((not (textRight t) || not (short threshold (length t)), refusedAt 5 (textBrokenAt threshold t))
       ∷ (ltb room (nameLength t), refused 7)
       ∷ openTextRows enc mac id t)
 
   unfoldable pub openName : List ℕ → List ℕ → End
   openName t out = ending (answer (openNameRows t (length out)) (done (nameLength t ∷ []))) (filled (nameOf enc t) (nameLength t) out) out
 
-  -- opening a stored name s with its full name t: the first rows, the full name's text form broken (5), the buffer too short (7), no more
-  -- characters of the full name than the threshold or s not its hash name (11), and the last rows of both openers
+  -- opening a stored name s with its full name t: the first rows, the full name's text form broken (5, with the place), the buffer too short (7),
+  -- no more characters of the full name than the threshold or s not its hash name (11), and the last rows of both openers
   unfoldable pub openLongNameRows : List ℕ → List ℕ → ℕ → List Row
   openLongNameRows s t room =
       nameRows
-      ((not (textRight t), refused 5)
+      ((not (textRight t), refusedAt 5 (textBrokenAt longestFull t))
       ∷ (ltb room (nameLength t), refused 7)
       ∷ (short threshold (length t) || not (same s (hashName t)), refused 11)
       ∷ openTextRows enc mac id t)

@@ -1,5 +1,5 @@
 -- What each row of each call asks for, in words of sizes, limits and bytes, with the format's numbers; row 12 asks for the synthetic IV, as
--- `nameGood` tests it, and row 3 of the openers looks at the bytes of `nameOf`. `Statements` says that the calls go by these rules.
+-- `nameGood` tests it, and row 3 of the openers looks at the bytes of `nameOf`. `Statements` says that the calls go by these rules, and which place row 5 bears.
 -- Assumes nothing.
 use mathlib.Core.Path.{_≡_}
 use mathlib.Core.Bool.{true}
@@ -7,12 +7,13 @@ use mathlib.Core.List.{List, [], _∷_, _++_}
 use Prim.Native.Nat.{ℕ, _≤_, _<_}
 use lib.ListN.{length}
 use Rattle.octets.specs.Bytes.{Below, Bytes}
-use Rattle.octets.specs.Rows.{refused, Rule}
+use Rattle.octets.specs.Rows.{refused, refusedAt, Rule}
 use Rattle.encoding.specs.Base64url as base64url
 use Rattle.utf8.specs.ProperText.{ProperText}
 use Rattle.threshold.specs.Threshold.{ThresholdFits}
 use Rattle.frame.specs.Rules.{KeySizes}
 use Rattle.name_spec.specs.Names.{fullEnd, fullLength, hashName, nameLength, nameOf, nameGood}
+use Rattle.name_spec.specs.Places.{longestFull, textBrokenAt}
 
 -- A directory ID: at most 36 bytes, each below 128.
 abbrev pub IdFits : List ℕ → Type 0
@@ -65,7 +66,7 @@ module _ (threshold : ℕ) (enc mac id : List ℕ) where
   abbrev pub openNameRules : List ℕ → ℕ → List Rule
   openNameRules t room =
       nameRules
-      ((TextForm t × (length t ≤ threshold), refused 5)
+      ((TextForm t × (length t ≤ threshold), refusedAt 5 (textBrokenAt threshold t))
       ∷ (nameLength t ≤ room, refused 7)
       ∷ (nameGood enc mac id t ≡ true, refused 12)
       ∷ (ProperText (nameOf enc t), refused 3)
@@ -75,7 +76,7 @@ module _ (threshold : ℕ) (enc mac id : List ℕ) where
   abbrev pub openLongNameRules : List ℕ → List ℕ → ℕ → List Rule
   openLongNameRules s t room =
       nameRules
-      ((TextForm t, refused 5)
+      ((TextForm t, refusedAt 5 (textBrokenAt longestFull t))
       ∷ (nameLength t ≤ room, refused 7)
       ∷ ((threshold < length t) × (s ≡ hashName t), refused 11)
       ∷ (nameGood enc mac id t ≡ true, refused 12)

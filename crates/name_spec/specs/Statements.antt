@@ -7,10 +7,11 @@ use mathlib.Core.List.{List, [], _∷_, _++_}
 use Prim.Native.Nat.{ℕ, _-_, _≤_, _<_}
 use lib.ListN.{length, replicate}
 use Rattle.octets.specs.Bytes.{Bytes, filled, same}
-use Rattle.octets.specs.Rows.{done, refused, Rule, Exactly, EndsBy, numbers, End, ended, Succeeded}
+use Rattle.octets.specs.Rows.{done, refused, refusedAt, Rule, Exactly, EndsBy, numbers, End, ended, Succeeded}
 use Rattle.aes_spec.specs.Cipher.{aes}
 use Rattle.siv.specs.Siv.{s2v}
 use Rattle.encoding.specs.Base64url as base64url
+use Rattle.encoding.specs.Places.{Place}
 use Rattle.utf8.specs.ProperText.{ProperText}
 use Rattle.threshold.specs.Threshold.{ThresholdFits}
 use Rattle.frame.specs.Rules.{KeySizes}
@@ -100,6 +101,17 @@ module _ (threshold : ℕ) (enc mac id : List ℕ) where
       × ((t out : List ℕ) → (openName threshold enc mac id t out ≡ ended (refused 18) out) ↔ ((threshold < 36) ⊎ (220 < threshold)))
       × ((s t out : List ℕ) → (openLongName threshold enc mac id s t out ≡ ended (refused 18) out) ↔ ((threshold < 36) ⊎ (220 < threshold)))
 
+  -- Each opener gives row 5 with the place p, and leaves the buffer as it was, exactly when the threshold, the keys and the directory ID fit and the text is broken at
+  -- p: the plain opener among the texts in the text form that have at most as many characters as the threshold, the other among all that are in the text form.
+  abbrev pub TextPlaces : Type 0
+  TextPlaces =
+      ((t out : List ℕ) (p : ℕ)
+      → (openName threshold enc mac id t out ≡ ended (refusedAt 5 p) out)
+      ↔ (ThresholdFits threshold × KeySizes enc mac × IdFits id × Place (λ u. TextForm u × (length u ≤ threshold)) t p))
+      × ((s t out : List ℕ) (p : ℕ)
+      → (openLongName threshold enc mac id s t out ≡ ended (refusedAt 5 p) out)
+      ↔ (ThresholdFits threshold × KeySizes enc mac × IdFits id × Place TextForm t p))
+
   -- A name is written exactly when the threshold, the keys, the directory ID and the name fit and there is room.
   abbrev pub NameWritesExactly : Type 0
   NameWritesExactly =
@@ -177,7 +189,7 @@ OneName =
 
 -- Demand 1, of the calls on names and directory paths.
 abbrev pub NameDemandOne : Type 0
-NameDemandOne = (threshold : ℕ) (enc mac id : List ℕ) → NameRowsExactly threshold enc mac id × NamesAscend threshold enc mac id × OutsideThreshold threshold enc mac id
+NameDemandOne = (threshold : ℕ) (enc mac id : List ℕ) → NameRowsExactly threshold enc mac id × NamesAscend threshold enc mac id × OutsideThreshold threshold enc mac id × TextPlaces threshold enc mac id
 
 -- Demand 2, of names and directory paths: they are written exactly where they fit, reading gives back what was written, and nothing else is read:
 -- a text that stands for other bytes than a name is told by row 3. And the longest names, with the room that is enough for any.

@@ -1,10 +1,6 @@
 // What the rows of several calls look at.
-use encoding::base64url;
-use encoding::base64url::Measure;
-use octets::slice::equal;
 use utf8::proper_text;
 ghost use mathlib.Core.Path.{_≡_};
-ghost use mathlib.Core.Bool.{cond};
 ghost use Rattle.name_spec.specs.Names as spec;
 
 // The most bytes of a directory ID.
@@ -53,29 +49,4 @@ pub fn short(threshold: u8, n: usize) -> bool
     ensures { λ r. ⌜ r ≡ spec.short threshold n ⌝ }
 {
     n <= threshold as usize
-}
-
-// How many bytes the name in a text has, or 0 if the text's form is broken.
-pub fn name_length(text: &[u8]) -> usize
-    ensures { λ r. ⌜ r ≡ cond (spec.textRight (now (text .entry))) (spec.nameLength (now (text .entry))) 0 ⌝ }
-{
-    if text.len() < 4 {
-        return 0;
-    }
-    let k = text.len() - 4;
-    if !equal(&text[k..], b".c9r") {
-        return 0;
-    }
-    match base64url::check(&text[..k], true) {
-        Measure::Refused => 0,
-        Measure::Accepted(m) => {
-            if m < 17 {
-                return 0;
-            }
-            if NAME_LIMIT + 16 < m {
-                return 0;
-            }
-            m - 16
-        }
-    }
 }

@@ -53,8 +53,8 @@ done-none (r ∷ rows) l m w e =
     go true a b x = absurd (b (ap number x))
     go false a b x = (refl, a x)
 
--- the answer is that of row k exactly when row k is the first that applies
-answered-first : (l : List ℕ) (rows : List Row) → without 0 rows ≡ true → distinct rows ≡ true → (k : ℕ) → k < length rows → answer rows (done l) ≡ outcomeAt rows (done l) k → First rows k
+-- the answer has the number of row k only where row k is the first that applies
+answered-first : (l : List ℕ) (rows : List Row) → without 0 rows ≡ true → distinct rows ≡ true → (k : ℕ) → k < length rows → number (answer rows (done l)) ≡ number (outcomeAt rows (done l) k) → First rows k
 unfolding answer
 answered-first l [] w d k h e = not-suc-le-zero h
 answered-first l (r ∷ rows) w d k h e =
@@ -62,17 +62,23 @@ answered-first l (r ∷ rows) w d k h e =
     let q = and-true (without (number (r .1)) rows) (distinct rows) d in
     go (eqb-false (number (r .1)) 0 (not-true (eqb (number (r .1)) 0) (p .0))) (q .0) (answered-first l rows (p .1) (q .1)) (r .0) refl k h e
   where
-    go : (number (r .1) ≡ 0 → ⊥) → without (number (r .1)) rows ≡ true → ((k : ℕ) → k < length rows → answer rows (done l) ≡ outcomeAt rows (done l) k → First rows k)
-        → (t : Bool) → r .0 ≡ t → (k : ℕ) → k < suc (length rows) → cond t (r .1) (answer rows (done l)) ≡ outcomeAt (r ∷ rows) (done l) k → First (r ∷ rows) k
+    go : (number (r .1) ≡ 0 → ⊥) → without (number (r .1)) rows ≡ true → ((k : ℕ) → k < length rows → number (answer rows (done l)) ≡ number (outcomeAt rows (done l) k) → First rows k)
+        → (t : Bool) → r .0 ≡ t → (k : ℕ) → k < suc (length rows) → number (cond t (r .1) (answer rows (done l))) ≡ number (outcomeAt (r ∷ rows) (done l) k) → First (r ∷ rows) k
     go n w next true s zero h e = s
-    go n w next true s (suc k) h e = absurd (lacks rows k (number (r .1)) (done l) (le-of-suc-le-suc h) w (sym (ap number e)))
-    go n w next false s zero h e = absurd (lacks-answer rows (number (r .1)) (done l) (λ x. n (sym x)) w (ap number e))
+    go n w next true s (suc k) h e = absurd (lacks rows k (number (r .1)) (done l) (le-of-suc-le-suc h) w (sym e))
+    go n w next false s zero h e = absurd (lacks-answer rows (number (r .1)) (done l) (λ x. n (sym x)) w e)
     go n w next false s (suc k) h e = (s, next k (le-of-suc-le-suc h) e)
+
+-- so the number of an answer tells the whole of it
+pub by-number : (rows : List Row) → numbered rows ≡ true → (l : List ℕ) (k : ℕ) → k < length rows → number (answer rows (done l)) ≡ number (outcomeAt rows (done l) k) → answer rows (done l) ≡ outcomeAt rows (done l) k
+by-number rows n l k h e =
+    let p = and-true (without 0 rows) (distinct rows) n in
+    first-answers rows (done l) k (answered-first l rows (p .0) (p .1) k h e)
 
 pub answer-exactly : (rows : List Row) → numbered rows ≡ true → AnswerExactly rows
 answer-exactly rows n l =
     let p = and-true (without 0 rows) (distinct rows) n in
-    (λ k h. (answered-first l rows (p .0) (p .1) k h, first-answers rows (done l) k), (done-none rows l l (p .0), none-answers rows (done l)))
+    (λ k h. (λ e. answered-first l rows (p .0) (p .1) k h (ap number e), first-answers rows (done l) k), (done-none rows l l (p .0), none-answers rows (done l)))
 
 -- what a call ends in where no row applies
 pub none-ends : (rows : List Row) (l new old : List ℕ) → NoRow rows → ending (answer rows (done l)) new old ≡ ended (done l) new

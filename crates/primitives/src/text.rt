@@ -38,18 +38,22 @@ pub extern "C" fn primitives_base64url_encode(data: &[u8], padded: u32, out: &mu
     1
 }
 
-// The bytes of an accepted text, and how many they are.
+// The bytes of an accepted text, and how many they are; or the place where the text is broken.
 #[no_mangle]
 pub extern "C" fn primitives_base64url_decode(
     text: &[u8],
     padded: u32,
     out: &mut [u8],
     written: &mut u64,
+    at: &mut u64,
 ) -> u32
-    ensures { λ r. ⌜ decodeEnd r (now (out .exit)) (now (written .exit)) ≡ base64urlBytes (now (text .entry)) padded (now (out .entry)) (now (written .entry)) ⌝ }
+    ensures { λ r. ⌜ decodeEnd r (now (out .exit)) (now (written .exit)) (now (at .exit)) ≡ base64urlBytes (now (text .entry)) padded (now (out .entry)) (now (written .entry)) (now (at .entry)) ⌝ }
 {
     match base64url::check(text, padded != 0) {
-        Measure::Refused => 0,
+        Measure::Refused(place) => {
+            *at = place as u64;
+            0
+        }
         Measure::Accepted(n) => {
             if out.len() < n {
                 return 0;

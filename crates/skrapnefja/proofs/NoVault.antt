@@ -9,28 +9,32 @@ use Rattle.names.specs.ByRecord.{dirPath}
 use Rattle.vault.specs.declared.record.Vault.{Vault}
 use Rattle.vault_bytes.specs.VaultBytes.{lent, lentName}
 use Rattle.vault_bytes.proofs.Lending.{lent-exactly, lent-name-exactly}
-use Rattle.skrapnefja.specs.Results.{resultOf, headerResultOf, chunkResultOf, nameResultOf}
-use Rattle.skrapnefja.specs.Statements.{PathOfAnyThreshold, SuccessWrites, RefusalLeaves, GivesRow, NamesGiveRow, NoVault}
+use Rattle.skrapnefja.specs.Results.{resultOf, headerResultOf, placedResultOf, nameResultOf, labelResultOf}
+use Rattle.skrapnefja.specs.Statements.{PathOfAnyThreshold, SuccessWrites, RefusalLeaves, ResultsTell, GivesRow, NamesGiveRow, NoVault}
 
 pub refusal-leaves : RefusalLeaves
-refusal-leaves row i before = (refl, refl, refl, refl, refl, refl, refl, refl)
+refusal-leaves row i before = (refl, refl, refl, refl, refl, refl, refl, refl, refl, refl)
 
 pub success-writes : SuccessWrites
-success-writes n m before = (refl, refl, refl, refl, refl, refl)
+success-writes n m before = (refl, refl, refl, refl, refl, refl, λ lengths. refl)
+
+pub results-tell : ResultsTell
+unfolding resultOf headerResultOf placedResultOf nameResultOf labelResultOf
+results-tell out full bytes row i n m l a b = (refl, refl, refl, refl, refl, refl, refl, refl, refl, refl, refl, refl, refl)
 
 gives-row : (b : List ℕ) (row : ℕ) → ((A : Type 0) (call : Vault → A) (refusal : ℕ → A) → lent b call refusal ≡ refusal row) → GivesRow b row
-unfolding resultOf headerResultOf chunkResultOf
+unfolding resultOf headerResultOf placedResultOf
 gives-row b row e out call l m =
     let o = e End call (λ r. ended (refused r) out) in (
       ap (λ (x : End). resultOf x l) o,
       ap (λ (x : End). headerResultOf x l m) o,
-      ap (λ (x : End). chunkResultOf x l m) o,
+      ap (λ (x : End). placedResultOf x l m) o,
     )
 
 names-give-row : (b : List ℕ) (row : ℕ) → ((A : Type 0) (call : Vault → A) (refusal : ℕ → A) → lentName b call refusal ≡ refusal row) → NamesGiveRow b row
-unfolding resultOf nameResultOf
+unfolding placedResultOf nameResultOf
 names-give-row b row e out stored full call writer l m = (
-  ap (λ (x : End). resultOf x l) (e End call (λ r. ended (refused r) out)),
+  ap (λ (x : End). placedResultOf x l m) (e End call (λ r. ended (refused r) out)),
   ap (λ (x : NameEnd). nameResultOf x l m) (e NameEnd writer (λ r. nameEnded (refused r) stored full)),
 )
 

@@ -1,4 +1,4 @@
--- What a refusal leaves: both lengths, the reserved bytes, and `at` unless it names a chunk. What an opened header leaves beside these bytes.
+-- What a refusal leaves: both lengths, the reserved bytes, and `at` unless it bears a number. What an opened header leaves beside these bytes.
 -- Assumes nothing.
 use Prim.Native.Nat.{ℕ}
 use mathlib.Core.Path.{_≡_, refl}
@@ -9,7 +9,7 @@ use Rattle.octets.specs.Rows.{number}
 use Rattle.answer.specs.Meaning.{row, meaning, withReserved}
 use Rattle.answer.proofs.Refusal.{the-type}
 use Rattle.answer.specs.declared.Refusal.{Refusal}
-use Rattle.answer.specs.declared.Refusal.the-variants.{KeyOrNonceSize, DirectoryId, Name, Length, Text, Range, Room, RepeatedNonce, Header, Chunk, HashName, SyntheticIv, Label, Alg, Signature, Format, Combo, Threshold, CheckValue}
+use Rattle.answer.specs.declared.Refusal.the-variants.{KeyOrNonceSize, DirectoryId, Name, Length, Text, Range, Room, RepeatedNonce, Header, Chunk, HashName, SyntheticIv, Label, Segment, Alg, Signature, Format, Combo, Threshold, CheckValue}
 use Rattle.answer.specs.declared.Answer.{Answer}
 use Rattle.answer.specs.declared.Answer.the-variants.{Done, Refused}
 use Rattle.skrapnefja.specs.Results.{writtenAfter, fullLengthAfter, reservedAfter, atAfter, comboAfter, thresholdAfter}
@@ -20,7 +20,7 @@ keeps-lengths KeyOrNonceSize n = (refl, refl, refl, refl, refl)
 keeps-lengths DirectoryId n = (refl, refl, refl, refl, refl)
 keeps-lengths Name n = (refl, refl, refl, refl, refl)
 keeps-lengths Length n = (refl, refl, refl, refl, refl)
-keeps-lengths Text n = (refl, refl, refl, refl, refl)
+keeps-lengths (Text i) n = (refl, refl, refl, refl, refl)
 keeps-lengths Range n = (refl, refl, refl, refl, refl)
 keeps-lengths Room n = (refl, refl, refl, refl, refl)
 keeps-lengths RepeatedNonce n = (refl, refl, refl, refl, refl)
@@ -29,6 +29,7 @@ keeps-lengths (Chunk i) n = (refl, refl, refl, refl, refl)
 keeps-lengths HashName n = (refl, refl, refl, refl, refl)
 keeps-lengths SyntheticIv n = (refl, refl, refl, refl, refl)
 keeps-lengths Label n = (refl, refl, refl, refl, refl)
+keeps-lengths (Segment i) n = (refl, refl, refl, refl, refl)
 keeps-lengths Alg n = (refl, refl, refl, refl, refl)
 keeps-lengths Signature n = (refl, refl, refl, refl, refl)
 keeps-lengths Format n = (refl, refl, refl, refl, refl)
@@ -36,9 +37,9 @@ keeps-lengths Combo n = (refl, refl, refl, refl, refl)
 keeps-lengths Threshold n = (refl, refl, refl, refl, refl)
 keeps-lengths CheckValue n = (refl, refl, refl, refl, refl)
 
--- the tags of the refusals but `Chunk`, which has the tag 9
+-- the tags of the refusals but `Text`, `Chunk` and `Segment`, which have the tags 4, 9 and 13
 abbrev others : List ℕ
-others = 0 ∷ 1 ∷ 2 ∷ 3 ∷ 4 ∷ 5 ∷ 6 ∷ 7 ∷ 8 ∷ 10 ∷ 11 ∷ 12 ∷ 13 ∷ 14 ∷ 15 ∷ 16 ∷ 17 ∷ 18 ∷ []
+others = 0 ∷ 1 ∷ 2 ∷ 3 ∷ 5 ∷ 6 ∷ 7 ∷ 8 ∷ 10 ∷ 11 ∷ 12 ∷ 14 ∷ 15 ∷ 16 ∷ 17 ∷ 18 ∷ 19 ∷ []
 
 -- any of these leaves `at`
 pub keeps-at : (x : Refusal) (a : ℕ) → OneOf others (tagOf the-type x) → atAfter (row x) a ≡ a
@@ -46,7 +47,7 @@ keeps-at KeyOrNonceSize a k = refl
 keeps-at DirectoryId a k = refl
 keeps-at Name a k = refl
 keeps-at Length a k = refl
-keeps-at Text a k = refl
+keeps-at (Text i) a k = absurd (miss others 4 tt k)
 keeps-at Range a k = refl
 keeps-at Room a k = refl
 keeps-at RepeatedNonce a k = refl
@@ -55,6 +56,7 @@ keeps-at (Chunk i) a k = absurd (miss others 9 tt k)
 keeps-at HashName a k = refl
 keeps-at SyntheticIv a k = refl
 keeps-at Label a k = refl
+keeps-at (Segment i) a k = absurd (miss others 13 tt k)
 keeps-at Alg a k = refl
 keeps-at Signature a k = refl
 keeps-at Format a k = refl

@@ -34,7 +34,7 @@ reservedAfter (done (n ∷ bytes)) before = int bytes
 reservedAfter (refused row) before = before
 reservedAfter (refusedAt row i) before = before
 
--- `at`: the number that a row returns, as row 10 does that of a chunk; any other outcome leaves it.
+-- `at`: the number that a row returns, as row 10 does that of a chunk, row 5 the place in a text and row 13 that of a broken segment; any other outcome leaves it.
 abbrev pub atAfter : Outcome → ℕ → ℕ
 atAfter (done lengths) before = before
 atAfter (refused row) before = before
@@ -86,19 +86,19 @@ headerResult r b l v = record { returned = r; buffer = b; written = l; reserved 
 unfoldable pub headerResultOf : End → ℕ → ℕ → HeaderResult
 headerResultOf e l v = headerResult (number (e .outcome)) (e .buffer) (writtenAfter (e .outcome) l) (reservedAfter (e .outcome) v)
 
--- ---- a call that reads chunks
+-- ---- a call with one buffer, whose rows may return a number: that of a chunk, or a place in a text
 
-pub record ChunkResult : Type 0 where
+pub record PlacedResult : Type 0 where
   pub returned : ℕ
   pub buffer : List ℕ
   pub written : ℕ
   pub at : ℕ
 
-abbrev pub chunkResult : ℕ → List ℕ → ℕ → ℕ → ChunkResult
-chunkResult r b l a = record { returned = r; buffer = b; written = l; at = a }
+abbrev pub placedResult : ℕ → List ℕ → ℕ → ℕ → PlacedResult
+placedResult r b l a = record { returned = r; buffer = b; written = l; at = a }
 
-unfoldable pub chunkResultOf : End → ℕ → ℕ → ChunkResult
-chunkResultOf e l a = chunkResult (number (e .outcome)) (e .buffer) (writtenAfter (e .outcome) l) (atAfter (e .outcome) a)
+unfoldable pub placedResultOf : End → ℕ → ℕ → PlacedResult
+placedResultOf e l a = placedResult (number (e .outcome)) (e .buffer) (writtenAfter (e .outcome) l) (atAfter (e .outcome) a)
 
 -- ---- the name writer
 
@@ -126,9 +126,10 @@ pub record LabelResult : Type 0 where
   pub returned : ℕ
   pub combo : ℕ
   pub threshold : ℕ
+  pub at : ℕ
 
-abbrev pub labelResult : ℕ → ℕ → ℕ → LabelResult
-labelResult r c t = record { returned = r; combo = c; threshold = t }
+abbrev pub labelResult : ℕ → ℕ → ℕ → ℕ → LabelResult
+labelResult r c t a = record { returned = r; combo = c; threshold = t; at = a }
 
-unfoldable pub labelResultOf : Outcome → ℕ → ℕ → LabelResult
-labelResultOf o c t = labelResult (number o) (comboAfter o c) (thresholdAfter o t)
+unfoldable pub labelResultOf : Outcome → ℕ → ℕ → ℕ → LabelResult
+labelResultOf o c t a = labelResult (number o) (comboAfter o c) (thresholdAfter o t) (atAfter o a)

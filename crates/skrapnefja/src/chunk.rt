@@ -12,7 +12,7 @@ ghost use Rattle.frame.specs.Frame.{headWith};
 ghost use Rattle.frame.specs.Single.{writeChunk, openChunk};
 ghost use Rattle.vault.specs.Vault.{codecOf};
 ghost use Rattle.vault_bytes.specs.VaultBytes.{lentEnd};
-ghost use Rattle.skrapnefja.specs.Results.{result, resultOf, chunkResult, chunkResultOf};
+ghost use Rattle.skrapnefja.specs.Results.{result, resultOf, placedResult, placedResultOf};
 
 // Writes the chunk of a number, a nonce and a cleartext of 1 to 32,768 bytes.
 #[no_mangle]
@@ -58,7 +58,7 @@ pub extern "C" fn skrapnefja_open_chunk(
     written: &mut u64,
     at: &mut u64,
 ) -> u32
-    ensures { λ r. ⌜ ((reserved : List ℕ) → chunkResult r (now (out .exit)) (now (written .exit)) (now (at .exit)) ≡ chunkResultOf (lentEnd (now (vault .entry)) (λ v. openChunk (codecOf v) (headWith (now («header_nonce» .entry)) reserved (now («content_key» .entry))) number (now (chunk .entry)) (now (out .entry))) (now (out .entry))) (now (written .entry)) (now (at .entry))) ⌝ }
+    ensures { λ r. ⌜ ((reserved : List ℕ) → placedResult r (now (out .exit)) (now (written .exit)) (now (at .exit)) ≡ placedResultOf (lentEnd (now (vault .entry)) (λ v. openChunk (codecOf v) (headWith (now («header_nonce» .entry)) reserved (now («content_key» .entry))) number (now (chunk .entry)) (now (out .entry))) (now (out .entry))) (now (written .entry)) (now (at .entry))) ⌝ }
 {
     let row = lent_row(vault);
     if row != 0 {

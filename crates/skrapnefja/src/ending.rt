@@ -8,7 +8,7 @@ use label::open::LabelAnswer;
 use octets::word::join_eight;
 ghost use mathlib.Core.Path.{_≡_};
 ghost use Rattle.octets.specs.Rows.{number};
-ghost use Rattle.answer.specs.Meaning.{meaning, headerMeaning, nameMeaning};
+ghost use Rattle.answer.specs.Meaning.{row, meaning, headerMeaning, nameMeaning};
 ghost use Rattle.label.specs.Opened.{labelMeaning};
 ghost use Rattle.skrapnefja.specs.Results.{writtenAfter, reservedAfter, fullLengthAfter, atAfter, comboAfter, thresholdAfter};
 
@@ -25,23 +25,30 @@ pub fn end(answer: Answer, written: &mut u64) -> u32
     }
 }
 
-// Writes the number of the chunk that an answer names.
-fn name_chunk(answer: Answer, at: &mut u64)
-    ensures { λ _. ⌜ now (at .exit) ≡ atAfter (meaning answer) (now (at .entry)) ⌝ }
+// Writes the number that a refusal bears: that of a chunk, or a place in a text or a label.
+fn tell_number(refusal: Refusal, at: &mut u64)
+    ensures { λ _. ⌜ now (at .exit) ≡ atAfter (row refusal) (now (at .entry)) ⌝ }
 {
-    if let Answer::Refused(refusal) = answer {
-        if let Refusal::Chunk(i) = refusal {
-            *at = i;
-        }
+    match refusal {
+        Refusal::Text(i) | Refusal::Chunk(i) | Refusal::Segment(i) => *at = i,
+        _ => {}
     }
 }
 
-// Ends a call that reads chunks.
+// Ends a call that answers a length, and whose refusals may bear a number.
 pub fn end_at(answer: Answer, written: &mut u64, at: &mut u64) -> u32
     ensures { λ r. ⌜ (r ≡ number (meaning answer)) × (now (written .exit) ≡ writtenAfter (meaning answer) (now (written .entry))) × (now (at .exit) ≡ atAfter (meaning answer) (now (at .entry))) ⌝ }
 {
-    name_chunk(answer, at);
-    end(answer, written)
+    match answer {
+        Answer::Done(n) => {
+            *written = n as u64;
+            0
+        }
+        Answer::Refused(refusal) => {
+            tell_number(refusal, at);
+            row_number(refusal)
+        }
+    }
 }
 
 // Writes the reserved bytes of an opened header as a number, the first byte the highest.
@@ -84,8 +91,8 @@ pub fn end_name(answer: NameAnswer, written: &mut u64, full_length: &mut u64) ->
 }
 
 // Ends the opening of a label.
-pub fn end_label(answer: LabelAnswer, combo: &mut u32, threshold: &mut u32) -> u32
-    ensures { λ r. ⌜ (r ≡ number (labelMeaning answer)) × (now (combo .exit) ≡ comboAfter (labelMeaning answer) (now (combo .entry))) × (now (threshold .exit) ≡ thresholdAfter (labelMeaning answer) (now (threshold .entry))) ⌝ }
+pub fn end_label(answer: LabelAnswer, combo: &mut u32, threshold: &mut u32, at: &mut u64) -> u32
+    ensures { λ r. ⌜ (r ≡ number (labelMeaning answer)) × (now (combo .exit) ≡ comboAfter (labelMeaning answer) (now (combo .entry))) × (now (threshold .exit) ≡ thresholdAfter (labelMeaning answer) (now (threshold .entry))) × (now (at .exit) ≡ atAfter (labelMeaning answer) (now (at .entry))) ⌝ }
 {
     match answer {
         LabelAnswer::Opened(c, t) => {
@@ -93,6 +100,9 @@ pub fn end_label(answer: LabelAnswer, combo: &mut u32, threshold: &mut u32) -> u
             *threshold = t;
             0
         }
-        LabelAnswer::Refused(refusal) => row_number(refusal),
+        LabelAnswer::Refused(refusal) => {
+            tell_number(refusal, at);
+            row_number(refusal)
+        }
     }
 }

@@ -10,7 +10,7 @@ ghost use mathlib.Core.Path.{_≡_};
 ghost use Rattle.frame.specs.Frame.{ownChoice, readRange, openFile, writeFile};
 ghost use Rattle.vault.specs.Vault.{codecOf};
 ghost use Rattle.vault_bytes.specs.VaultBytes.{lentEnd};
-ghost use Rattle.skrapnefja.specs.Results.{result, resultOf, chunkResult, chunkResultOf};
+ghost use Rattle.skrapnefja.specs.Results.{result, resultOf, placedResult, placedResultOf};
 
 // Writes the file of a cleartext; `chunk_nonces` has one nonce for each chunk, in order.
 #[no_mangle]
@@ -51,7 +51,7 @@ pub extern "C" fn skrapnefja_open_file(
     written: &mut u64,
     at: &mut u64,
 ) -> u32
-    ensures { λ r. ⌜ chunkResult r (now (out .exit)) (now (written .exit)) (now (at .exit)) ≡ chunkResultOf (lentEnd (now (vault .entry)) (λ v. openFile (codecOf v) (now (file .entry)) (now (out .entry))) (now (out .entry))) (now (written .entry)) (now (at .entry)) ⌝ }
+    ensures { λ r. ⌜ placedResult r (now (out .exit)) (now (written .exit)) (now (at .exit)) ≡ placedResultOf (lentEnd (now (vault .entry)) (λ v. openFile (codecOf v) (now (file .entry)) (now (out .entry))) (now (out .entry))) (now (written .entry)) (now (at .entry)) ⌝ }
 {
     let row = lent_row(vault);
     if row != 0 {
@@ -71,7 +71,7 @@ pub extern "C" fn skrapnefja_read_range(
     written: &mut u64,
     at: &mut u64,
 ) -> u32
-    ensures { λ r. ⌜ chunkResult r (now (out .exit)) (now (written .exit)) (now (at .exit)) ≡ chunkResultOf (lentEnd (now (vault .entry)) (λ v. readRange (codecOf v) (now (file .entry)) from count (now (out .entry))) (now (out .entry))) (now (written .entry)) (now (at .entry)) ⌝ }
+    ensures { λ r. ⌜ placedResult r (now (out .exit)) (now (written .exit)) (now (at .exit)) ≡ placedResultOf (lentEnd (now (vault .entry)) (λ v. readRange (codecOf v) (now (file .entry)) from count (now (out .entry))) (now (out .entry))) (now (written .entry)) (now (at .entry)) ⌝ }
 {
     let row = lent_row(vault);
     if row != 0 {

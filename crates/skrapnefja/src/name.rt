@@ -1,5 +1,6 @@
 // Names, and paths of directories.
 use crate::ending::end;
+use crate::ending::end_at;
 use crate::ending::end_name;
 use names::opener::open_long_name;
 use names::opener::open_name;
@@ -11,7 +12,7 @@ use vault_bytes::vault_in;
 ghost use mathlib.Core.Path.{_≡_};
 ghost use Rattle.names.specs.ByRecord.{writeName, openName, openLongName};
 ghost use Rattle.vault_bytes.specs.VaultBytes.{lentNameEnd};
-ghost use Rattle.skrapnefja.specs.Results.{lentWriterEnd, pathEnd, result, resultOf, nameResult, nameResultOf};
+ghost use Rattle.skrapnefja.specs.Results.{lentWriterEnd, pathEnd, result, resultOf, placedResult, placedResultOf, nameResult, nameResultOf};
 
 // Writes what is stored for a name in the directory with this ID, and for a shortened name its full name to the second buffer.
 #[no_mangle]
@@ -37,7 +38,7 @@ pub extern "C" fn skrapnefja_write_name(
     )
 }
 
-// Opens a name that is stored as it is.
+// Opens a name that is stored as it is; row 5 tells the place in it.
 #[no_mangle]
 pub extern "C" fn skrapnefja_open_name(
     vault: &[u8],
@@ -45,17 +46,18 @@ pub extern "C" fn skrapnefja_open_name(
     stored: &[u8],
     out: &mut [u8],
     written: &mut u64,
+    at: &mut u64,
 ) -> u32
-    ensures { λ r. ⌜ result r (now (out .exit)) (now (written .exit)) ≡ resultOf (lentNameEnd (now (vault .entry)) (λ v. openName v (now («dir_id» .entry)) (now (stored .entry)) (now (out .entry))) (now (out .entry))) (now (written .entry)) ⌝ }
+    ensures { λ r. ⌜ placedResult r (now (out .exit)) (now (written .exit)) (now (at .exit)) ≡ placedResultOf (lentNameEnd (now (vault .entry)) (λ v. openName v (now («dir_id» .entry)) (now (stored .entry)) (now (out .entry))) (now (out .entry))) (now (written .entry)) (now (at .entry)) ⌝ }
 {
     let row = lent_name_row(vault);
     if row != 0 {
         return row;
     }
-    end(open_name(vault_in(vault), dir_id, stored, out), written)
+    end_at(open_name(vault_in(vault), dir_id, stored, out), written, at)
 }
 
-// Opens a shortened name: what is stored, and its full name.
+// Opens a shortened name: what is stored, and its full name; row 5 tells the place in the latter.
 #[no_mangle]
 pub extern "C" fn skrapnefja_open_long_name(
     vault: &[u8],
@@ -64,16 +66,18 @@ pub extern "C" fn skrapnefja_open_long_name(
     full: &[u8],
     out: &mut [u8],
     written: &mut u64,
+    at: &mut u64,
 ) -> u32
-    ensures { λ r. ⌜ result r (now (out .exit)) (now (written .exit)) ≡ resultOf (lentNameEnd (now (vault .entry)) (λ v. openLongName v (now («dir_id» .entry)) (now (stored .entry)) (now (full .entry)) (now (out .entry))) (now (out .entry))) (now (written .entry)) ⌝ }
+    ensures { λ r. ⌜ placedResult r (now (out .exit)) (now (written .exit)) (now (at .exit)) ≡ placedResultOf (lentNameEnd (now (vault .entry)) (λ v. openLongName v (now («dir_id» .entry)) (now (stored .entry)) (now (full .entry)) (now (out .entry))) (now (out .entry))) (now (written .entry)) (now (at .entry)) ⌝ }
 {
     let row = lent_name_row(vault);
     if row != 0 {
         return row;
     }
-    end(
+    end_at(
         open_long_name(vault_in(vault), dir_id, stored, full, out),
         written,
+        at,
     )
 }
 

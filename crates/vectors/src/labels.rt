@@ -1,5 +1,6 @@
-// The label under keys that all differ.
+// The label under keys that all differ, and broken labels.
 use crate::print;
+use answer::Refusal;
 use label::open::LabelAnswer;
 use label::open::open_label;
 
@@ -13,4 +14,22 @@ pub fn distinct() {
         let said = [(combo % 256) as u8, (threshold % 256) as u8];
         print(&said);
     }
+}
+
+// The place of a broken segment, below 256.
+fn place(label: &[u8]) {
+    let raw_key = [0u8; 64];
+    if let LabelAnswer::Refused(refusal) = open_label(&raw_key, label) {
+        if let Refusal::Segment(p) = refusal {
+            let told = [(p % 256) as u8];
+            print(&told);
+        }
+    }
+}
+
+// A character outside the alphabet in the first segment, padding in the second, and pad bits that are not zero at the end of the third.
+pub fn broken() {
+    place(b"f+.fQ.fQ");
+    place(b"fQ.fQ==.fQ");
+    place(b"fQ.fQ.fR");
 }

@@ -380,4 +380,5 @@ fn main() {
     stock_master_key();
     ctrmac::stock_chunk();
     distinct();
+    labels::broken();
 }

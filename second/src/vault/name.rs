@@ -2,7 +2,8 @@
 
 use super::directory::check_id;
 use super::sizes::{put, room};
-use super::text::{full_len, full_name, hash_name, sealed_name, HASH_NAME_LEN, MAX_NAME_LEN};
+use super::text::{full_len, full_name, hash_name, sealed_name};
+use super::text::{HASH_NAME_LEN, MAX_FULL_LEN, MAX_NAME_LEN};
 use super::threshold::check_threshold;
 use super::{Refusal, Vault};
 use crate::siv::{self, IV_LEN};
@@ -58,8 +59,7 @@ impl Vault {
     ) -> Result<usize, Refusal> {
         check_threshold(self.threshold)?;
         check_id(dir_id)?;
-        Refusal::Text.unless(self.is_plain(stored.len()))?;
-        let sealed = sealed_name(stored).ok_or(Refusal::Text)?;
+        let sealed = sealed_name(stored, self.threshold.into()).map_err(Refusal::Text)?;
         room(out, sealed.len() - IV_LEN)?;
         self.open_sealed_name(dir_id, &sealed, out)
     }
@@ -74,7 +74,7 @@ impl Vault {
     ) -> Result<usize, Refusal> {
         check_threshold(self.threshold)?;
         check_id(dir_id)?;
-        let sealed = sealed_name(full).ok_or(Refusal::Text)?;
+        let sealed = sealed_name(full, MAX_FULL_LEN).map_err(Refusal::Text)?;
         room(out, sealed.len() - IV_LEN)?;
         Refusal::HashName.unless(!self.is_plain(full.len()))?;
         Refusal::HashName.unless(stored == hash_name(full).as_bytes())?;
@@ -166,7 +166,8 @@ mod tests {
                     let opened = vault.open_long_name(b"id", hash, full, &mut out);
                     assert_eq!(opened, Ok(len));
                     let opened = vault.open_name(b"id", full, &mut out);
-                    assert_eq!(opened, Err(Refusal::Text));
+                    let most = usize::from(threshold) / 4 * 4 - 4;
+                    assert_eq!(opened, Err(Refusal::Text(most)));
                 }
             }
         }
@@ -186,6 +187,33 @@ mod tests {
                 assert_eq!(refusals, [Some(Refusal::Threshold); 3]);
             }
             assert_eq!(vault.dir_path(b"id", &mut [0; 36]), Ok(36));
+        }
+    }
+
+    /// The place is in the stored name where that is opened by itself, and in the
+    /// full name otherwise. The limits are not the same.
+    #[test]
+    fn places() {
+        let vault = samples::vault_with(Combo::SivGcm, 36);
+        let [short, long] = [32, 36].map(|digits| "A".repeat(digits) + ".c9r");
+        for (text, plain, full) in [
+            ("", 0, 0),
+            ("A.c9r", 1, 1),
+            (&short[..35], 35, 35),
+            (&short.replace(".c9r", ".c9s"), 35, 35),
+            (&long.replace(".c9r", ""), 32, 36),
+            (&long.replace(".c9r", ".c9r+"), 32, 40),
+        ] {
+            let opened = vault.open_name(b"id", text.as_bytes(), &mut []);
+            assert_eq!(opened, Err(Refusal::Text(plain)), "{text}");
+            let opened = vault.open_long_name(b"id", b"", text.as_bytes(), &mut []);
+            assert_eq!(opened, Err(Refusal::Text(full)), "{text}");
+        }
+        let opened = vault.open_name(b"id", long.as_bytes(), &mut []);
+        assert_eq!(opened, Err(Refusal::Text(32)));
+        for text in [short, long] {
+            let opened = vault.open_long_name(b"id", b"", text.as_bytes(), &mut []);
+            assert_eq!(opened, Err(Refusal::Room));
         }
     }
 
@@ -213,7 +241,7 @@ mod tests {
         let mut stored = [0; 220];
         let written = vault.write_name(b"", b"name", &mut stored, &mut []);
         assert_eq!(written, Ok(WrittenName::Plain(32)));
-        let sealed = sealed_name(&stored[..32]).expect("a full name");
+        let sealed = sealed_name(&stored[..32], 32).expect("a full name");
         assert_eq!(
             siv::open(&vault.mac, &vault.enc, &[b""], &sealed),
             Some(b"name".to_vec())

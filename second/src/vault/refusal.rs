@@ -14,8 +14,9 @@ pub enum Refusal {
     /// No file, header, chunk or wrapped key has this length.
     Length,
     /// The text form of the name is broken, or longer than the threshold for a
-    /// plain one.
-    Text,
+    /// plain one: at this place, it is no longer the start of one that is right,
+    /// or it ends too early, and the place is its length.
+    Text(usize),
     /// The range ends behind the cleartext.
     Range,
     /// A buffer has not the room for what goes into it.
@@ -32,8 +33,9 @@ pub enum Refusal {
     /// The synthetic IV is not that of the name.
     SyntheticIv,
     /// The label is too long or no label, is nested too deep, or has not each
-    /// of its members once and of the right kind.
-    Label,
+    /// of its members once and of the right kind. If a segment is broken, the
+    /// place at which the first of these is, in the label.
+    Label(Option<usize>),
     /// The label is not signed by HS256.
     Alg,
     /// The label's signature is wrong.
@@ -55,7 +57,7 @@ impl Refusal {
             Refusal::DirectoryId => 2,
             Refusal::Name => 3,
             Refusal::Length => 4,
-            Refusal::Text => 5,
+            Refusal::Text(_) => 5,
             Refusal::Range => 6,
             Refusal::Room => 7,
             Refusal::RepeatedNonce => 8,
@@ -63,7 +65,7 @@ impl Refusal {
             Refusal::Chunk(_) => 10,
             Refusal::HashName => 11,
             Refusal::SyntheticIv => 12,
-            Refusal::Label => 13,
+            Refusal::Label(_) => 13,
             Refusal::Alg => 14,
             Refusal::Signature => 15,
             Refusal::Format => 16,

@@ -127,14 +127,37 @@ pub fn base64url_encode(data: &[u8], padded: u32, out: &[u8]) -> bool {
 }
 
 pub fn base64url_decode(text: &[u8], padded: u32, out: &[u8], length: u64) -> bool {
+    let place = base64url::decode(text, padded != 0)
+        .is_none()
+        .then(|| base64url::place(text, padded != 0) as u64);
+    let (done, at) = base64url_decode_at(text, padded, out, length);
+    assert_eq!(at, place, "wrong place");
+    done
+}
+
+/// Compares all but the place, which is given where one was written.
+pub fn base64url_decode_at(
+    text: &[u8],
+    padded: u32,
+    out: &[u8],
+    length: u64,
+) -> (bool, Option<u64>) {
     let answer = base64url::decode(text, padded != 0);
     let decoded = answer.as_ref().map_or(0, Vec::len) as u64;
     let mut lengths = [!length, length, !length];
-    let call = |out: &mut _| primitives::base64url_decode(text, padded, out, &mut lengths[1]);
+    let mut places = [length, !length, length];
+    let call = |out: &mut _| {
+        primitives::base64url_decode(text, padded, out, &mut lengths[1], &mut places[1])
+    };
     let done = compare("base64url_decode", &[text], answer, out, call);
     let later = if done { decoded } else { length };
     assert_eq!(lengths, [!length, later, !length], "wrong length");
-    done
+    assert_eq!(
+        [places[0], places[2]],
+        [length; 2],
+        "a place beside the place"
+    );
+    (done, (places[1] != !length).then_some(places[1]))
 }
 
 /// Two inputs by their sizes.

@@ -72,6 +72,6 @@ functions! {
     primitives_base32 as base32(data: input, out: buffer);
     primitives_base64url_encode as base64url_encode(data: input, padded: flag, out: buffer);
     primitives_base64url_decode as base64url_decode(
-        text: input, padded: flag, out: buffer, length: length);
+        text: input, padded: flag, out: buffer, length: length, at: length);
     primitives_proper_text as proper_text(text: input);
 }

@@ -1,5 +1,5 @@
-//! Each call of the library, in each combo, with an input that succeeds; labels
-//! also with some that are refused.
+//! Each call of the library, in each combo, with an input that succeeds; names
+//! and labels also with some that are refused.
 
 use super::labels;
 use super::measure::used;
@@ -80,6 +80,7 @@ fn depths(combo: Combo) -> Vec<Depth> {
         chunk_depths(&vault, combo),
         file_depths(&vault, combo),
         name_depths(&vault),
+        broken_name_depths(&vault),
         length_depths(&vault, combo),
     ]
     .concat()
@@ -159,6 +160,23 @@ fn name_depths(vault: &Vault) -> Vec<Depth> {
         ("open_name", open),
         ("open_long_name", open_long),
         ("dir_path", path),
+    ]
+}
+
+/// The longest texts, with another last character.
+fn broken_name_depths(vault: &Vault) -> Vec<Depth> {
+    let of = |digits: usize, pads: usize| "A".repeat(digits) + &"=".repeat(pads) + ".c9s";
+    let (plain, full) = (of(MAX_STORED_LEN - 4, 0), of(MAX_FULL_LEN - 6, 2));
+    let at = |text: &str| Err(Refusal::Text(text.len() as u64 - 1));
+    let open = ends(at(&plain), || {
+        vault.open_name(ID, plain.as_bytes(), &mut [])
+    });
+    let open_long = ends(at(&full), || {
+        vault.open_long_name(ID, b"", full.as_bytes(), &mut [])
+    });
+    vec![
+        ("open_name, broken", open),
+        ("open_long_name, broken", open_long),
     ]
 }
 

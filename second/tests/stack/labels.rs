@@ -80,10 +80,19 @@ pub fn depths() -> Vec<Depth> {
         depths.push((name, of(&filled(&RAW_KEY, parts), Ok(220))));
     }
     for (name, parts) in WRONG {
-        let refused = Err(Refusal::Label);
+        let refused = Err(Refusal::Label(None));
         depths.push((name, of(&filled(&RAW_KEY, parts), refused)));
     }
+    depths.push(("open_label, a broken segment", of_broken()));
     depths
+}
+
+/// What the call used on a label of 4,096 bytes that is broken at the last.
+fn of_broken() -> usize {
+    let mut label = filled(&RAW_KEY, ["{", " ", REQUIRED]);
+    let last = label.len() - 1;
+    label[last] = b'=';
+    of(&label, Err(Refusal::Label(Some(last as u64))))
 }
 
 /// What the call used that must give this threshold or be refused.

@@ -162,13 +162,14 @@ impl Case {
         [self.numbers[0] as u32, self.numbers[1] as u32]
     }
 
-    /// The two results before the call. Those of a label have 32 bits.
-    pub fn old_results(&self) -> [u64; 2] {
-        let old = [OLD_LENGTH, OLD_OTHER];
-        match self.call {
-            Call::OpenLabel => old.map(|result| u64::from(result as u32)),
-            _ => old,
-        }
+    /// The results before the call. The combo and the threshold of a label have
+    /// 32 bits.
+    pub fn old_results(&self) -> [u64; 3] {
+        let [length, other] = match self.call {
+            Call::OpenLabel => [OLD_LENGTH, OLD_OTHER].map(|old| u64::from(old as u32)),
+            _ => [OLD_LENGTH, OLD_OTHER],
+        };
+        [length, other, OLD_AT]
     }
 }
 
@@ -179,10 +180,19 @@ pub struct End {
     pub row: u32,
     /// The length written, or the combo of a label.
     pub length: u64,
-    /// The chunk's number, the length of the full name, the header's reserved
-    /// bytes as a number, or the threshold of a label.
+    /// The length of the full name, the header's reserved bytes as a number, or
+    /// the threshold of a label.
     pub other: u64,
+    /// The chunk's number, or the place at which a text is broken.
+    pub at: u64,
     pub buffers: Vec<Vec<u8>>,
+}
+
+impl End {
+    /// The chunk's number or the place, if the call gave one.
+    pub fn place(&self) -> Option<u64> {
+        (self.at != OLD_AT).then_some(self.at)
+    }
 }
 
 /// The length before a call.
@@ -190,3 +200,6 @@ const OLD_LENGTH: u64 = 0x0123_4567_89ab_cdef;
 
 /// The other number before a call.
 const OLD_OTHER: u64 = 0xfedc_ba98_7654_3210;
+
+/// The chunk's number or the place before a call.
+const OLD_AT: u64 = 0x8765_4321_0fed_cba9;

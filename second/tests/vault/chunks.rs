@@ -26,7 +26,7 @@ fn bits(compare: &mut Compare, combo: Combo) {
                 let mut damaged = case.clone();
                 damaged.inputs[input][bit / 8] ^= 1 << (bit % 8);
                 let end = compare.end(&damaged);
-                assert_eq!((end.row, end.other), (10, case.numbers[0]));
+                assert_eq!((end.row, end.at), (10, case.numbers[0]));
             }
         }
     }
@@ -89,7 +89,7 @@ fn numbers(compare: &mut Compare, combo: Combo) {
         let mut other = case.clone();
         other.numbers[0] ^= 1 << bit;
         let end = compare.end(&other);
-        assert_eq!((end.row, end.other), (10, other.numbers[0]));
+        assert_eq!((end.row, end.at), (10, other.numbers[0]));
         let mut write = make::write_chunk(&mut compare.random, combo, 20);
         write.numbers = other.numbers;
         assert_eq!(compare.row(&write), 0);

@@ -47,21 +47,27 @@ fn difference(case: &Case, predicted: &End, actual: &End) -> String {
         .collect();
     let mut text = format!(
         "{:?} with inputs of {:?} bytes, numbers {:?} and buffers of {:?} bytes: \
-         library row {} length {} other {}, second row {} length {} other {}, \
-         first different bytes of the buffers {places:?}",
+         library {}, second {}, first different bytes of the buffers {places:?}",
         case.call,
         lengths(&case.inputs),
         case.numbers,
         lengths(&case.buffers),
-        actual.row,
-        actual.length,
-        actual.other,
-        predicted.row,
-        predicted.length,
-        predicted.other,
+        numbers(actual),
+        numbers(predicted),
     );
     if case.inputs.iter().map(Vec::len).sum::<usize>() < 2000 {
         text += &format!("\ninputs {:x?}", case.inputs);
     }
     text
+}
+
+fn numbers(end: &End) -> String {
+    let End {
+        row,
+        length,
+        other,
+        at,
+        ..
+    } = end;
+    format!("row {row} length {length} other {other} at {at}")
 }

@@ -6,6 +6,7 @@ mod labels;
 mod mutations;
 mod names;
 mod room;
+mod scrambles;
 mod vaults;
 
 use crate::case::Case;
@@ -13,6 +14,7 @@ use crate::common::random::Random;
 
 pub use mutations::mutate;
 pub use names::stray;
+pub use scrambles::scramble;
 
 /// What can be wrong with what is lent, by the rows of the table. Row 1 is two
 /// of them: the size of a vault is looked at before its threshold and its combo,

@@ -62,10 +62,10 @@ fn damage(compare: &mut Compare, combo: Combo) {
         // With the last chunk damaged as well, the lowest number is given.
         let more = flipped(&damaged, file - 20, 0x20);
         for damaged in [damaged, more] {
-            let End { row, other, .. } = compare.end(&damaged);
+            let End { row, at, .. } = compare.end(&damaged);
             match place.checked_sub(header) {
                 None => assert_eq!(row, 9),
-                Some(place) => assert_eq!((row, other), (10, (place / chunk) as u64)),
+                Some(place) => assert_eq!((row, at), (10, (place / chunk) as u64)),
             }
         }
     }
@@ -93,12 +93,12 @@ fn cut(compare: &mut Compare, combo: Combo) {
     for cut in first - 30..whole + 10 {
         let mut other = case.clone();
         resize(&mut other.inputs[1], cut, &mut compare.random);
-        let End { row, other, .. } = compare.end(&other);
+        let End { row, at, .. } = compare.end(&other);
         match cut {
-            _ if cut < first => assert_eq!((row, other), (10, 0)),
+            _ if cut < first => assert_eq!((row, at), (10, 0)),
             _ if cut == first || cut == whole => assert_eq!(row, 0),
             _ if cut <= first + sizes.overhead => assert_eq!(row, 4),
-            _ => assert!(row == 7 || (row, other) == (10, 1)),
+            _ => assert!(row == 7 || (row, at) == (10, 1)),
         }
     }
 }
@@ -126,7 +126,7 @@ fn moved_chunks(compare: &mut Compare, combo: Combo) {
         }
         let end = compare.end(&other);
         assert_eq!(end.row, row);
-        assert!(at.is_none_or(|at| at == end.other));
+        assert!(at.is_none_or(|at| at == end.at));
     }
     // Without the last chunk it is another file, and opens.
     let mut shorter = case.clone();
@@ -146,7 +146,7 @@ fn strange_chunks(compare: &mut Compare, combo: Combo) {
         let mut mixed = one.clone();
         let start = sizes.header + i * sizes.chunk;
         mixed.inputs[1][start..start + sizes.chunk].copy_from_slice(chunk(&other, combo, i));
-        let End { row, other, .. } = compare.end(&mixed);
-        assert_eq!((row, other), (10, i as u64));
+        let End { row, at, .. } = compare.end(&mixed);
+        assert_eq!((row, at), (10, i as u64));
     }
 }

@@ -1,5 +1,6 @@
 //! Labels.
 
+mod broken;
 mod escapes;
 mod hostile;
 mod kinds;
@@ -21,7 +22,7 @@ use crate::make;
 use crate::part::Part;
 use second::vault::Combo;
 
-pub const PARTS: [&[Part]; 12] = [
+pub const PARTS: [&[Part]; 13] = [
     members::PARTS,
     kinds::PARTS,
     escapes::PARTS,
@@ -30,6 +31,7 @@ pub const PARTS: [&[Part]; 12] = [
     numbers::PARTS,
     strings::PARTS,
     segments::PARTS,
+    broken::PARTS,
     signatures::PARTS,
     sizes::PARTS,
     hostile::PARTS,

@@ -15,26 +15,30 @@ const GUARD_HALF: u32 = 0x6f75_7421;
 pub fn end(case: &Case) -> End {
     let mut inputs: Vec<_> = case.inputs.iter().map(|slice| guarded(slice)).collect();
     let mut buffers: Vec<_> = case.buffers.iter().map(|slice| guarded(slice)).collect();
-    let [length, other] = case.old_results();
-    let mut results = [GUARD_WORD, length, GUARD_WORD, other, GUARD_WORD];
-    let [before, length, between, other, after] = &mut results;
+    let mut results = case.old_results().map(|old| [GUARD_WORD, old, GUARD_WORD]);
+    let [length, other, at] = &mut results;
     let row = run(
         case,
         Lent {
             inputs: &inside(&mut inputs),
             buffers: &mut inside(&mut buffers),
-            length,
-            other,
+            length: &mut length[1],
+            other: &mut other[1],
+            at: &mut at[1],
         },
     );
-    assert_eq!([*before, *between, *after], [GUARD_WORD; 3]);
+    let [length, other, at] = results.map(|[before, result, after]| {
+        assert_eq!([before, after], [GUARD_WORD; 2]);
+        result
+    });
     for (later, slice) in inputs.iter().zip(&case.inputs) {
         assert!(inside_of(later) == &slice[..], "changed an input");
     }
     End {
         row,
-        length: *length,
-        other: *other,
+        length,
+        other,
+        at,
         buffers: buffers
             .iter()
             .map(|slice| inside_of(slice).to_vec())
@@ -70,6 +74,7 @@ struct Lent<'a, 'b> {
     buffers: &'a mut [&'b mut [u8]],
     length: &'a mut u64,
     other: &'a mut u64,
+    at: &'a mut u64,
 }
 
 fn run(case: &Case, lent: Lent) -> u32 {
@@ -83,7 +88,7 @@ fn run(case: &Case, lent: Lent) -> u32 {
 }
 
 fn content(case: &Case, lent: Lent) -> u32 {
-    let (length, other) = (lent.length, lent.other);
+    let (length, other, at) = (lent.length, lent.other, lent.at);
     // SAFETY: each pointer is that of a slice, with its length, or of a number.
     unsafe {
         match (case.call, lent.inputs, &case.numbers[..], lent.buffers) {
@@ -103,7 +108,7 @@ fn content(case: &Case, lent: Lent) -> u32 {
             (Call::OpenChunk, [vault, key, header_nonce, chunk], &[number], [out]) => {
                 call!(skrapnefja_open_chunk:
                     in vault, in key, in header_nonce, val number, in chunk,
-                    out out, val length, val other,)
+                    out out, val length, val at,)
             }
             (Call::WriteFile, [vault, header_nonce, key, nonces, cleartext], [], [out]) => {
                 call!(skrapnefja_write_file:
@@ -111,11 +116,11 @@ fn content(case: &Case, lent: Lent) -> u32 {
                     out out, val length,)
             }
             (Call::OpenFile, [vault, file], [], [out]) => {
-                call!(skrapnefja_open_file: in vault, in file, out out, val length, val other,)
+                call!(skrapnefja_open_file: in vault, in file, out out, val length, val at,)
             }
             (Call::ReadRange, [vault, file], &[from, count], [out]) => {
                 call!(skrapnefja_read_range:
-                    in vault, in file, val from, val count, out out, val length, val other,)
+                    in vault, in file, val from, val count, out out, val length, val at,)
             }
             _ => panic!("not what {:?} takes", case.call),
         }
@@ -123,7 +128,7 @@ fn content(case: &Case, lent: Lent) -> u32 {
 }
 
 fn names(call: Call, lent: Lent) -> u32 {
-    let (length, other) = (lent.length, lent.other);
+    let (length, other, at) = (lent.length, lent.other, lent.at);
     // SAFETY: as for content.
     unsafe {
         match (call, lent.inputs, lent.buffers) {
@@ -133,11 +138,11 @@ fn names(call: Call, lent: Lent) -> u32 {
             }
             (Call::OpenName, [vault, dir_id, stored], [out]) => {
                 call!(skrapnefja_open_name:
-                    in vault, in dir_id, in stored, out out, val length,)
+                    in vault, in dir_id, in stored, out out, val length, val at,)
             }
             (Call::OpenLongName, [vault, dir_id, stored, full], [out]) => {
                 call!(skrapnefja_open_long_name:
-                    in vault, in dir_id, in stored, in full, out out, val length,)
+                    in vault, in dir_id, in stored, in full, out out, val length, val at,)
             }
             (Call::DirPath, [vault, dir_id], [out]) => {
                 call!(skrapnefja_dir_path: in vault, in dir_id, out out, val length,)
@@ -184,17 +189,20 @@ fn keys(case: &Case, lent: Lent) -> u32 {
     }
 }
 
-/// Its two results have 32 bits each.
+/// Its combo and its threshold have 32 bits each.
 fn label(lent: Lent) -> u32 {
     let [raw_key, label] = lent.inputs else {
         panic!("not what a label is opened with");
     };
     let [combo, threshold] = [*lent.length, *lent.other].map(|old| old as u32);
+    let at = lent.at;
     let mut results = [GUARD_HALF, combo, GUARD_HALF, threshold, GUARD_HALF];
     let [before, combo, between, threshold, after] = &mut results;
     // SAFETY: as for content.
-    let row =
-        unsafe { call!(skrapnefja_open_label: in raw_key, in label, val combo, val threshold,) };
+    let row = unsafe {
+        call!(skrapnefja_open_label:
+            in raw_key, in label, val combo, val threshold, val at,)
+    };
     assert_eq!([*before, *between, *after], [GUARD_HALF; 3]);
     *lent.length = (*combo).into();
     *lent.other = (*threshold).into();

@@ -32,8 +32,8 @@ fn opened(compare: &mut Compare, combo: Combo) {
     assert_eq!((row, length), (0, LONGEST_CLEARTEXT as u64));
 
     case.inputs[1][sizes(combo).header + 511 * sizes(combo).chunk + 100] ^= 4;
-    let End { row, other, .. } = compare.end(&case);
-    assert_eq!((row, other), (10, 511));
+    let End { row, at, .. } = compare.end(&case);
+    assert_eq!((row, at), (10, 511));
 
     case.call = Call::ReadRange;
     let end = LONGEST_CLEARTEXT as u64;

@@ -40,6 +40,7 @@ mod names;
 mod order;
 mod other_combo;
 mod part;
+mod places;
 mod points;
 mod predict;
 mod proper_text;
@@ -96,7 +97,12 @@ fn main() -> ExitCode {
         .filter(|arg| !arg.starts_with('-'))
         .collect();
     let wanted = |name: &str| filters.is_empty() || filters.iter().any(|part| name.contains(part));
-    let parts = [PARTS.concat(), labels::PARTS.concat()].concat();
+    let parts = [
+        PARTS.concat(),
+        places::PARTS.concat(),
+        labels::PARTS.concat(),
+    ]
+    .concat();
     let mut jobs: Vec<_> = parts.into_iter().flat_map(part::jobs).collect();
     jobs.retain(|job| wanted(&job.name));
     println!("SEED={seed} FIRST={first} CALLS={calls}");

@@ -97,7 +97,7 @@ fn chunks_of_files(compare: &mut Compare, combo: Combo) {
         let header = make::open_written_file(&mut compare.random, &write);
         mixed.inputs[1].splice(..sizes(combo).header, header.inputs[1].iter().copied());
         mixed.buffers = vec![compare.random.bytes(len + 100)];
-        let End { row, other, .. } = compare.end(&mixed);
-        assert!(row == 4 || (row, other) == (10, 0), "{len}: row {row}");
+        let End { row, at, .. } = compare.end(&mixed);
+        assert!(row == 4 || (row, at) == (10, 0), "{len}: row {row}");
     }
 }

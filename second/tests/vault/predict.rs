@@ -5,17 +5,34 @@ use second::vault::{self, Refusal, Vault, WrittenName};
 
 pub fn end(case: &Case) -> End {
     let mut buffers = case.buffers.clone();
-    let [old_length, old_other] = case.old_results();
-    let (row, length, other) = match run(case, &mut buffers) {
-        Ok((length, other)) => (0, length, other.unwrap_or(old_other)),
-        Err(Refusal::Chunk(number)) => (10, old_length, number),
-        Err(refusal) => (refusal.row(), old_length, old_other),
+    let [mut length, mut other, mut at] = case.old_results();
+    let row = match run(case, &mut buffers) {
+        Ok((new_length, new_other)) => {
+            length = new_length;
+            other = new_other.unwrap_or(other);
+            0
+        }
+        Err(refusal) => {
+            at = place(refusal).unwrap_or(at);
+            refusal.row()
+        }
     };
     End {
         row,
         length,
         other,
+        at,
         buffers,
+    }
+}
+
+/// The number that a refusal has beside its row.
+fn place(refusal: Refusal) -> Option<u64> {
+    match refusal {
+        Refusal::Chunk(number) => Some(number),
+        Refusal::Text(place) => Some(place as u64),
+        Refusal::Label(place) => place.map(|place| place as u64),
+        _ => None,
     }
 }
 

@@ -4,7 +4,7 @@
 use crate::case::{Call, Case};
 use crate::common::random::Random;
 use crate::compare::Compare;
-use crate::fault::{flip, mutate, resize, spoil, Fault};
+use crate::fault::{flip, mutate, resize, scramble, spoil, Fault};
 use crate::format::{COMBO_PLACE, THRESHOLD_PLACE};
 use crate::tally::Tally;
 use crate::{make, report, threads};
@@ -97,8 +97,11 @@ fn random_case(call: Call, combo: Combo, random: &mut Random) -> Case {
             change(&mut case, random);
         }
     }
-    if call == Call::OpenLabel && random.below(3) == 0 {
-        mutate(&mut case, random);
+    match (call, random.below(3)) {
+        (Call::OpenLabel, 0) => mutate(&mut case, random),
+        (Call::OpenLabel, 1) => scramble(&mut case, random),
+        (Call::OpenName | Call::OpenLongName, 0 | 1) => scramble(&mut case, random),
+        _ => {}
     }
     if call.takes_vault() && random.below(20) == 0 {
         let (place, byte) = match random.below(2) {

@@ -127,10 +127,10 @@ fn covering(compare: &mut Compare, combo: Combo) {
                 count > 0 && from < start + 32_768 && from + count > start
             });
             let first_bad = covers.find(|chunk| damaged >> chunk & 1 == 1);
-            let End { row, other, .. } = compare.end(&with_range(&file, from, count));
+            let End { row, at, .. } = compare.end(&with_range(&file, from, count));
             match first_bad {
                 None => assert_eq!(row, 0),
-                Some(chunk) => assert_eq!((row, other), (10, chunk)),
+                Some(chunk) => assert_eq!((row, at), (10, chunk)),
             }
         }
         file.inputs[1][30] ^= 1;

@@ -11,9 +11,11 @@ const ENDS: [u32; 20] = [
     0, 1, 2, 3, 4, 5, 6, 7, 8, 9, 10, 11, 12, 13, 14, 15, 16, 17, 18, 20,
 ];
 
-/// The column after theirs: done with a shortened name.
+/// The columns after theirs: done with a shortened name, and a label whose
+/// segment is broken, which is row 13 with a place.
 const SHORTENED: usize = ENDS.len();
-const COLUMNS: usize = ENDS.len() + 1;
+const SEGMENT: usize = ENDS.len() + 1;
+const COLUMNS: usize = ENDS.len() + 2;
 
 /// The lines of a call: with each combo, and with none that is known.
 const LINES: [Option<Combo>; 3] = [Some(Combo::SivGcm), Some(Combo::SivCtrmac), None];
@@ -23,12 +25,13 @@ pub struct Tally([[[u64; COLUMNS]; LINES.len()]; Call::ALL.len()]);
 
 impl Tally {
     pub fn count(&mut self, case: &Case, end: &End) {
-        let shortened = end.row == 0 && case.call == Call::WriteName && end.other != 0;
-        let column = if shortened {
-            SHORTENED
-        } else {
-            let place = ENDS.iter().position(|&row| row == end.row);
-            place.unwrap_or_else(|| panic!("there is no row {}", end.row))
+        let column = match (case.call, end.row) {
+            (Call::WriteName, 0) if end.other != 0 => SHORTENED,
+            (Call::OpenLabel, 13) if end.place().is_some() => SEGMENT,
+            (_, row) => {
+                let place = ENDS.iter().position(|&other| other == row);
+                place.unwrap_or_else(|| panic!("there is no row {row}"))
+            }
         };
         let line = LINES.iter().position(|&line| line == combo(case, end));
         self.0[case.call as usize][line.expect("there are three")][column] += 1;
@@ -85,12 +88,13 @@ fn is_possible(call: Call, combo: Option<Combo>, column: usize) -> bool {
         Call::WrapKey | Call::UnwrapKey => combo.is_none(),
         _ => combo.is_some(),
     };
-    match ENDS.get(column) {
-        None => succeeds && call == Call::WriteName,
-        Some(0) => succeeds,
-        Some(&row) => {
-            let mut faults = call.faults().iter().filter(|fault| fault.row() == row);
-            faults.any(|&fault| is_found(call, combo, fault))
+    match column {
+        SHORTENED => succeeds && call == Call::WriteName,
+        SEGMENT => combo.is_none() && call == Call::OpenLabel,
+        _ if ENDS[column] == 0 => succeeds,
+        _ => {
+            let mut faults = call.faults().iter();
+            faults.any(|fault| fault.row() == ENDS[column] && is_found(call, combo, *fault))
         }
     }
 }
@@ -110,10 +114,11 @@ fn is_found(call: Call, combo: Option<Combo>, fault: Fault) -> bool {
 }
 
 fn title(column: usize) -> String {
-    match ENDS.get(column) {
-        Some(0) => "done".to_string(),
-        Some(row) => format!("row {row}"),
-        None => "shortened".to_string(),
+    match column {
+        SHORTENED => "shortened".to_string(),
+        SEGMENT => "segment".to_string(),
+        _ if ENDS[column] == 0 => "done".to_string(),
+        _ => format!("row {}", ENDS[column]),
     }
 }
 

@@ -1,9 +1,8 @@
 //! Stored and full names mangled at every place.
 
-use crate::case::{Call, Case};
 use crate::compare::Compare;
 use crate::format::{LONGEST_FULL_NAME, LONGEST_NAME};
-use crate::make::{self, full_name};
+use crate::make::{self, full_name, text_of, with_text};
 use crate::part::{Part, Run::Each};
 use second::vault::Combo;
 
@@ -23,27 +22,13 @@ pub const PARTS: &[Part] = &[
     ("texts: every character of the hash name", Each(hash_names)),
 ];
 
-/// The case with this as its (full) name, and with the hash of it.
-fn with_text(case: &Case, text: Vec<u8>) -> Case {
-    let mut case = case.clone();
-    if case.call == Call::OpenLongName {
-        case.inputs[2] = make::hash_name(&text);
-    }
-    *case.inputs.last_mut().expect("a text") = text;
-    case
-}
-
-fn text(case: &Case) -> Vec<u8> {
-    case.inputs.last().expect("a text").clone()
-}
-
 /// Three names, so that the last group has each number of characters. With
 /// another character in the place of a pad the name is longer, and may have no
 /// room.
 fn every_character(compare: &mut Compare, combo: Combo) {
     for len in [1, 2, 3] {
         let case = make::open_name(&mut compare.random, combo, len);
-        let right = text(&case);
+        let right = text_of(&case);
         for place in 0..right.len() {
             let pad = right[place] == b'=';
             for character in 0..=255 {
@@ -62,7 +47,7 @@ fn some_characters(compare: &mut Compare, combo: Combo) {
     let long = [147, 148, 149, 255, 1018, 1019, 1020]
         .map(|len| make::open_long_name(&mut compare.random, combo, len));
     for case in [plain].into_iter().chain(long) {
-        let right = text(&case);
+        let right = text_of(&case);
         for place in 0..right.len() {
             let pad = right[place] == b'=';
             for character in *b"AB_-=.+\xe1" {
@@ -81,7 +66,7 @@ fn lengths(compare: &mut Compare, combo: Combo) {
     let long = [147, 148, 255, 1018, 1019, 1020]
         .map(|len| make::open_long_name(&mut compare.random, combo, len));
     for case in plain.into_iter().chain(long) {
-        let right = text(&case);
+        let right = text_of(&case);
         for place in 0..=right.len() {
             let (start, end) = right.split_at(place);
             let rest = end.get(1..).unwrap_or(&[]);
@@ -140,7 +125,7 @@ fn last_group(compare: &mut Compare, combo: Combo) {
     let alphabet = b"ABCDEFGHIJKLMNOPQRSTUVWXYZabcdefghijklmnopqrstuvwxyz0123456789-_=+/.";
     for len in [1, 2, 3] {
         let case = make::open_name(&mut compare.random, combo, len);
-        let right = text(&case);
+        let right = text_of(&case);
         let end = right.len() - 4;
         for place in [end - 3, end - 2] {
             for &one in alphabet {

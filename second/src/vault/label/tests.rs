@@ -53,9 +53,12 @@ fn json_web_signature() {
     assert_eq!(base64url::encode(&mac, false), signature);
 
     let label = [signed, signature].join(".");
-    assert_eq!(open_label(&key, label.as_bytes()), Err(Refusal::Label));
-    let header = members(signed.split('.').next().expect("a segment").as_bytes());
-    let header = header.expect("an object");
+    assert_eq!(
+        open_label(&key, label.as_bytes()),
+        Err(Refusal::Label(None))
+    );
+    let segments = Segments::of(label.as_bytes()).unwrap_or_else(|_| panic!("three segments"));
+    let header = object(&segments.header).expect("an object");
     let alg = only(&header, "alg").and_then(Value::text);
     assert!(alg.is_some_and(|alg| is(alg, ALGORITHM)));
 }
@@ -80,7 +83,7 @@ fn rows() {
     let worst = r#"{"format":9,"cipherCombo":"","shorteningThreshold":0}"#;
     let broken = label(wrong, "{}");
     assert_eq!(open_label(&KEY[1..], &broken), Err(Refusal::KeyOrNonceSize));
-    assert_eq!(open_label(&KEY, &broken), Err(Refusal::Label));
+    assert_eq!(open_label(&KEY, &broken), Err(Refusal::Label(None)));
     let unsigned = |header: &str| {
         let mut label = label(header, worst);
         let last = label.len() - 2;
@@ -147,7 +150,7 @@ fn names_and_strings_after_escapes() {
             0 => PAYLOAD.replace('{', &format!("{{{twice},")),
             _ => PAYLOAD.replace('}', &format!(",{twice}}}")),
         };
-        assert_eq!(opened(HEADER, &payload), Err(Refusal::Label));
+        assert_eq!(opened(HEADER, &payload), Err(Refusal::Label(None)));
     }
     for header in [
         r#"{"alg":"hs256"}"#,
@@ -162,7 +165,7 @@ fn names_and_strings_after_escapes() {
         r#"{"alg":["HS256"]}"#,
         r#"{"x":{"alg":"HS256"}}"#,
     ] {
-        assert_eq!(opened(header, PAYLOAD), Err(Refusal::Label));
+        assert_eq!(opened(header, PAYLOAD), Err(Refusal::Label(None)));
     }
 }
 
@@ -174,7 +177,7 @@ fn unknown_members() {
         (r#""x":1,"x":2,"":{"a":1,"a":2}"#.to_string(), None),
         (r#""alg":"none","alg":0"#.to_string(), None),
         (format!(r#""x":{}"#, nested(8)), None),
-        (format!(r#""x":{}"#, nested(9)), Some(Refusal::Label)),
+        (format!(r#""x":{}"#, nested(9)), Some(Refusal::Label(None))),
     ] {
         let payload = PAYLOAD.replace('{', &format!("{{{unknown},"));
         assert_eq!(opened(HEADER, &payload).err(), refusal);
@@ -183,36 +186,95 @@ fn unknown_members() {
     assert_eq!(opened(header, PAYLOAD), Ok((Combo::SivGcm, 220)));
 }
 
+/// The three segments of a label that opens.
+fn right_segments() -> [String; 3] {
+    let text = String::from_utf8(label(HEADER, PAYLOAD)).expect("ASCII");
+    let segments: Vec<_> = text.split('.').map(String::from).collect();
+    segments.try_into().expect("three segments")
+}
+
 #[test]
 fn segments() {
-    let good = label(HEADER, PAYLOAD);
-    let text = String::from_utf8(good.clone()).expect("ASCII");
-    let segments: Vec<_> = text.split('.').collect();
-    let [header, payload, signature] = segments[..] else {
-        panic!("not three segments");
-    };
+    let [header, payload, signature] = right_segments();
+    let text = format!("{header}.{payload}.{signature}");
     for (other, refusal) in [
-        (String::new(), Refusal::Label),
-        ("..".to_string(), Refusal::Label),
-        ("...".to_string(), Refusal::Label),
-        (format!("{header}.{payload}"), Refusal::Label),
-        (format!("{text}."), Refusal::Label),
-        (format!(".{text}"), Refusal::Label),
-        (format!("{payload}.{header}.{signature}"), Refusal::Label),
-        (format!("{header}.{payload}.{signature}="), Refusal::Label),
-        (format!("{header}.{payload}.{signature}\n"), Refusal::Label),
-        (format!("{header}.{payload}.A"), Refusal::Label),
+        (String::new(), Refusal::Label(None)),
+        ("..".to_string(), Refusal::Label(None)),
+        ("...".to_string(), Refusal::Label(None)),
+        (format!("{header}.{payload}"), Refusal::Label(None)),
+        (format!("{text}."), Refusal::Label(None)),
+        (format!(".{text}"), Refusal::Label(None)),
+        (
+            format!("{payload}.{header}.{signature}"),
+            Refusal::Label(None),
+        ),
         (format!("{header}.{payload}."), Refusal::Signature),
         (format!("{header}.{payload}.AA"), Refusal::Signature),
         (
             format!("{header}.{payload}.{signature}A"),
             Refusal::Signature,
         ),
-        (format!("{header}.{payload}.{signature}AA"), Refusal::Label),
     ] {
         assert_eq!(open_label(&KEY, other.as_bytes()), Err(refusal), "{other}");
     }
-    assert_eq!(open_label(&KEY, &good), Ok((Combo::SivGcm, 220)));
+    assert_eq!(open_label(&KEY, text.as_bytes()), Ok((Combo::SivGcm, 220)));
+}
+
+/// The header has 20 characters, the payload 83 and the signature 43.
+#[test]
+fn places() {
+    let [header, payload, signature] = right_segments();
+    assert_eq!(
+        [20, 83, 43],
+        [&header, &payload, &signature].map(String::len)
+    );
+    let text = format!("{header}.{payload}.{signature}");
+    for (other, place) in [
+        (format!("{text}="), 148),
+        (format!("{text}\n"), 148),
+        (format!("{text}AA"), 150),
+        (format!("{header}.{payload}.A"), 106),
+        (format!("{header}.{payload}.AB"), 107),
+        (format!("{header}.{payload}.AAB"), 108),
+        (format!("{header}.{payload}.+"), 105),
+        (format!("{header}.{payload}=.{signature}"), 104),
+        (format!("{header}.{payload}AA.{signature}"), 106),
+        (format!("{header}.A.{signature}"), 22),
+        (format!("{header}=.{payload}.{signature}"), 20),
+        (format!("{header}A.{payload}.{signature}"), 21),
+        (format!(" {text}"), 0),
+        ("A..".to_string(), 1),
+        (".A.".to_string(), 2),
+        ("..A".to_string(), 3),
+        ("..=".to_string(), 2),
+        // The first broken segment counts, and only then what they hold.
+        (format!("{header}A.+.="), 21),
+        (format!("{header}.+.="), 21),
+        ("AAAA.AAAA.A".to_string(), 11),
+        ("AAAA..AB".to_string(), 8),
+    ] {
+        let refusal = Refusal::Label(Some(place));
+        assert_eq!(open_label(&KEY, other.as_bytes()), Err(refusal), "{other}");
+    }
+}
+
+/// The size and the dots come before the segments.
+#[test]
+fn no_places() {
+    for other in [
+        "=".to_string(),
+        "=.".to_string(),
+        "=...".to_string(),
+        "A.A.A.A".to_string(),
+        format!("{}..", "=".repeat(4095)),
+        format!("..{}", "A".repeat(4097)),
+    ] {
+        let opened = open_label(&KEY, other.as_bytes());
+        assert_eq!(opened, Err(Refusal::Label(None)), "{other}");
+    }
+    let longest = format!("..{}", "A".repeat(4093));
+    let opened = open_label(&KEY, longest.as_bytes());
+    assert_eq!(opened, Err(Refusal::Label(Some(4095))));
 }
 
 /// White space brings a label to 4,096 bytes, and to one more.

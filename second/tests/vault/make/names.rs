@@ -111,6 +111,21 @@ pub fn dir_path(random: &mut Random, combo: Combo) -> Case {
     with_room(Call::DirPath, random, inputs, &[], 36)
 }
 
+/// An opener's case with this as its (full) name, and with the hash of it.
+pub fn with_text(case: &Case, text: Vec<u8>) -> Case {
+    let mut case = case.clone();
+    if case.call == Call::OpenLongName {
+        case.inputs[2] = hash_name(&text);
+    }
+    *case.inputs.last_mut().expect("a text") = text;
+    case
+}
+
+/// The (full) name of an opener's case.
+pub fn text_of(case: &Case) -> Vec<u8> {
+    case.inputs.last().expect("a text").clone()
+}
+
 /// The name that is stored in place of this one.
 pub fn hash_name(full: &[u8]) -> Vec<u8> {
     let hash = sha1::digest(full);

@@ -7,41 +7,32 @@ use native.Mathlib.Omega.{arith}
 use borrow.Author.Needs.{needs}
 use lib.ListN.{length}
 use Rattle.octets.specs.Bytes.{same}
-use Rattle.octets.proofs.Equality.{true-false, same-not}
+use Rattle.octets.proofs.Equality.{same-not}
 use Rattle.octets.proofs.Lists.{placed-all}
 use Rattle.encoding.specs.Base64url.{decoded}
 use Rattle.hmac.specs.Hmac.{hmacSha256}
 use Rattle.hmac.proofs.Laws.{mac-bytes}
-use Rattle.label.proofs.Decoding.{is-accepted, is-refused}
+use Rattle.label.proofs.Decoding.{decoded-size}
 use Rattle.label.proofs.signature.signature_right.Statement.{statement}
 use Rattle.label.proofs.signature.signature_right.Tie as tie
 
-check-requires : tie.Need-check-requires
-check-requires c κs = search needs
-
-enum-known-n : tie.Need-enum-known-n
-enum-known-n c = search needs
-
-enum-told : tie.Need-enum-told
-enum-told c = search needs
-
-returns : tie.Need-returns
-returns c = absurd (true-false (sym (c .before .before .before .before .before .before .pre) ∙ is-refused (c .before .before .before .before .before .before .args .segment .now) (c .before .before .check .result) (c .before .before .check .ensures) (c .enum-told .given .1)))
+decoded-length-requires : tie.Need-decoded-length-requires
+decoded-length-requires c κs = search needs
 
 -- How many bytes it has.
-size : (c : tie.After-known-told) → length (decoded false (c .before .before .before .before .before .before .before .args .segment .now)) ≡ c .before .n .given .0 .0
-size c = is-accepted (c .before .before .before .before .before .before .before .args .segment .now) (c .before .before .before .check .result) (c .before .before .before .check .ensures) (c .before .n .given .0 .0) (c .before .n .given .1) .1
+size : (c : tie.After-decoded-length) → length (decoded false (c .before .before .before .before .args .segment .now)) ≡ c .decoded-length .result
+size c = decoded-size (c .before .before .before .before .args .segment .now) ∙ sym (c .decoded-length .ensures)
 
-returns-2 : tie.Need-returns-2
-returns-2 c =
-    let k = c .before .before .before .before .before .before .before .before .args in
+returns : tie.Need-returns
+returns c =
+    let k = c .before .before .before .before .before .args in
     sym (same-not _ _ λ e. c .if1 .taken (sym (size (c .before)) ∙ sym (ap length e) ∙ mac-bytes (k .raw-key .now) (k .signed .now) .0))
 
 slice-aggregate-decode : tie.Need-slice-aggregate-decode
 slice-aggregate-decode c = search needs
 
 decode-requires : tie.Need-decode-requires
-decode-requires c κs = (c .before .before .before .before .before .before .before .before .before .pre, omega (arith, size (c .before .before), c .before .if1 .left))
+decode-requires c κs = (c .before .before .before .before .before .before .pre, omega (arith, size (c .before .before), c .before .if1 .left))
 
 slice-aggregate-mac : tie.Need-slice-aggregate-mac
 slice-aggregate-mac c = search needs
@@ -61,9 +52,9 @@ slice-aggregate-equal-2 c = search needs
 equal-requires : tie.Need-equal-requires
 equal-requires c κs = search needs
 
-returns-3 : tie.Need-returns-3
-returns-3 c =
-    let k = c .before .before .before .before .before .before .before .before .before .before .before .before .before .before .before .before .before .args in
+returns-2 : tie.Need-returns-2
+returns-2 c =
+    let k = c .before .before .before .before .before .before .before .before .before .before .before .before .before .before .args in
     let m = c .before .before .before .mac .ensures ∙ ap (hmacSha256 (k .raw-key .now)) (append-nil (k .signed .now)) in
     let g = c .before .before .before .before .before .before .before .decode .ensures ∙ placed-all (decoded false (k .segment .now)) _ (omega (arith, size (c .before .before .before .before .before .before .before .before .before .before), c .before .before .before .before .before .before .before .before .before .if1 .left)) in
     c .equal .ensures ∙ ap₂ same m g
@@ -72,11 +63,8 @@ pub signature-right-spec : {M : Type 1} → statement M
 signature-right-spec =
     tie.close
     (tie.spec
-    check-requires
-    enum-known-n
-    enum-told
+    decoded-length-requires
     returns
-    returns-2
     slice-aggregate-decode
     decode-requires
     slice-aggregate-mac
@@ -85,4 +73,4 @@ signature-right-spec =
     slice-aggregate-equal
     slice-aggregate-equal-2
     equal-requires
-    returns-3)
+    returns-2)

@@ -12,7 +12,7 @@ end-label-requires : tie.Need-end-label-requires
 end-label-requires c κs = search needs
 
 returns : tie.Need-returns
-returns c = let x = c .before .before .before .before .before .before .args in joined-label (x .combo .now) (x .threshold .now) (c .before .before .before .open-label .ensures) (c .end-label .ensures)
+returns c = let x = c .before .before .before .before .before .before .before .args in joined-label (x .combo .now) (x .threshold .now) (x .at .now) (c .before .before .before .before .open-label .ensures) (c .end-label .ensures)
 
 pub skrapnefja-open-label-spec : {M : Type 1} → statement M
 skrapnefja-open-label-spec = tie.close (tie.spec open-label-requires end-label-requires returns)
