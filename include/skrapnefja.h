@@ -4,14 +4,16 @@
  * Slices
  *   A slice is a pointer and a number of bytes, and any bytes and lengths may be passed: a size that is wrong is refused.
  *   A pointer to no bytes may not be null: pass any other address with the length 0.
- *   `out`, `stored`, `full` of skrapnefja_write_name, and the numbers `length`, `full_length`, `reserved` and `at` are written to,
- *   and `combo` and `threshold` of skrapnefja_open_label. None of them may overlap another argument. The numbers may not be null.
+ *   `out`, `stored`, `full` of skrapnefja_write_name, `file` of skrapnefja_mend, and the numbers `length`, `full_length`, `reserved`
+ *   and `at` are written to, and `combo` and `threshold` of skrapnefja_open_label. None of them may overlap another argument. The
+ *   numbers may not be null.
  *
  * What is returned and written
  *   Each function returns SKRAPNEFJA_DONE, or the row of the refusal: the first that applies of those named at the function, in the
  *   order in which they are named there. A vault that is lent is looked at before all else: row 1 if it has another size than 66,
  *   then, where a name is written or opened, row 18, then row 17. What row 1 says of keys and nonces is tried behind these.
- *   Done: the answer stands at the front of `out`, its length in `length`. Bytes of `out` past it, and `at`, are as before.
+ *   Done: the answer stands at the front of `out`, its length in `length`. Bytes of `out` past it, and `at`, are as before. A mend
+ *   has no `out`: it has changed `file` in place, and `length` is the number of new bytes.
  *   Refused: nothing is written, but that row 10 writes the number of the chunk to `at`, and rows 5 and 13 the place where a text is
  *   broken.
  *
@@ -33,7 +35,8 @@
  *   The library makes no random bytes. Draw a content key for each file, and a nonce for each header and each chunk, from a
  *   random generator, anew each time that something is written: GCM is broken by a nonce that is used twice under one key. In
  *   SIV_CTRMAC the counter starts at the nonce, so a repeated nonce repeats the keystream, and a nonce that is a little higher than
- *   another repeats a part of it: do not count nonces up. Row 8 finds equal nonces only.
+ *   another repeats a part of it: do not count nonces up. Row 8 finds equal nonces only. A mend keeps the content key of the file,
+ *   so none of its nonces may ever have been used in that file; row 8 knows only those that are in the file now.
  *
  * The library keeps no state, takes no memory but the stack, and needs nothing of the C library but memcpy and memset.
  */
@@ -51,7 +54,7 @@ extern "C" {
 enum skrapnefja_row {
     SKRAPNEFJA_DONE = 0,
     SKRAPNEFJA_KEY_OR_NONCE_SIZE = 1, /* a vault has not 66 bytes, a key not 32, a raw key not 64, a nonce not 12 or 16, as the combo
-                                         has it, or there is not one nonce for each chunk */
+                                         has it, or there is not one nonce for each chunk to write */
     SKRAPNEFJA_DIRECTORY_ID = 2,      /* the directory ID has more than 36 bytes, or one that is not ASCII */
     SKRAPNEFJA_NAME = 3,              /* the name has no byte, more than 1,020, or is not proper text: well-formed UTF-8 without a
                                          zero byte and without '/'; at the openers of names tried last, behind row 12 */
@@ -62,7 +65,8 @@ enum skrapnefja_row {
                                          the place */
     SKRAPNEFJA_RANGE = 6,             /* the range ends behind the cleartext */
     SKRAPNEFJA_ROOM = 7,              /* a buffer has not the room for what goes into it */
-    SKRAPNEFJA_REPEATED_NONCE = 8,    /* two chunk nonces of a file to write are equal */
+    SKRAPNEFJA_REPEATED_NONCE = 8,    /* two chunk nonces of a file to write are equal; at a mend, two that are lent, or one of these
+                                         and that of a chunk now in the file */
     SKRAPNEFJA_HEADER = 9,            /* the header's tag (SIV_GCM) or MAC (SIV_CTRMAC) is wrong */
     SKRAPNEFJA_CHUNK = 10,            /* the tag or MAC of a chunk that is needed is wrong; `at` is the lowest such chunk's number */
     SKRAPNEFJA_HASH_NAME = 11,        /* the full name is no longer than the threshold, or the stored name isn't its hash name */
@@ -191,6 +195,26 @@ uint32_t skrapnefja_open_file(const uint8_t *vault, size_t vault_len,
 uint32_t skrapnefja_read_range(const uint8_t *vault, size_t vault_len,
                                const uint8_t *file, size_t file_len, uint64_t from, uint64_t count,
                                uint8_t *out, size_t out_len, uint64_t *length, uint64_t *at);
+
+/*
+ * Mends a file in place: replaces bytes of its cleartext by as many new ones, the first of them at place `from`, counted from 0. The
+ * length stays. The chunks that the range covers are sealed again, each with its lent nonce, once the header and all of them are
+ * found good. No other byte of the file changes, and a chunk that is not covered may be bad, and stays so. `from` may be any number.
+ * A range of no bytes covers no chunk, looks at the header only, and changes nothing.
+ * `nonces` has 12 or 16 bytes for each covered chunk, in order. These chunks are number from / 32,768 to number
+ * (from + new_bytes_len - 1) / 32,768, rounded down, the sum taken without wrapping; row 1 counts them so, also where the range is
+ * not inside. Row 8 is given if two of the nonces are equal, or if one is that of a chunk now in the file, covered or not, good or
+ * not. The nonce of the header does not count.
+ * The mend is done in the caller's buffer. While it runs, the cleartext of one covered chunk at a time stands there: lend memory that
+ * nobody else reads, not a map of the stored file. Storing it safely is the caller's: if power is lost in the middle, a half-written
+ * file can be left on a card. The bytes to store afterwards are those from the start of the first covered chunk to the end of the
+ * last; chunk i starts at place header size + (32,768 + overhead) * i of the file.
+ * Rows 1, 17, 4, 6, 8, 9, 10.
+ */
+uint32_t skrapnefja_mend(const uint8_t *vault, size_t vault_len,
+                         uint8_t *file, size_t file_len, uint64_t from,
+                         const uint8_t *new_bytes, size_t new_bytes_len,
+                         const uint8_t *nonces, size_t nonces_len, uint64_t *length, uint64_t *at);
 
 /* ---- A single header, and single chunks: for a caller that does not hold the file whole. */
 

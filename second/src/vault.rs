@@ -3,7 +3,7 @@
 //!
 //! A call tries its rows of the table of refusals in order, and writes only
 //! when none of them applies. It gives the length of what it wrote; a buffer
-//! that is longer keeps its rest.
+//! that is longer keeps its rest. A mend changes a file where it stands.
 
 mod bytes;
 mod chunk;
@@ -15,7 +15,10 @@ mod header;
 mod label;
 mod lengths;
 mod master_key;
+mod mend;
 mod name;
+mod nonces;
+mod range;
 mod record;
 mod refusal;
 #[cfg(test)]

@@ -5,7 +5,8 @@
 //! Every function takes any bytes at all, comes back, and either writes its
 //! whole answer to the start of the buffer and gives its length, or gives a
 //! [`Refusal`] and changes no byte. A buffer that is longer than the answer
-//! keeps its rest. There is no state, and nothing is allocated.
+//! keeps its rest. [`Vault::mend`] has no such buffer: it changes the file that
+//! it is lent, where it stands. There is no state, and nothing is allocated.
 //!
 //! A [`Vault`] is made of the two master keys of the vault, `enc` and `mac`, 32
 //! bytes each, which [`unwrap_key`] unwraps from the values in
@@ -16,7 +17,9 @@
 //! are the caller's to choose at random, and never to use twice: GCM is broken
 //! by a nonce that is used twice under one key. In SIV_CTRMAC the counter
 //! starts at the nonce, so a repeated nonce repeats the keystream, and a nonce
-//! that is a little higher than another repeats a part of it.
+//! that is a little higher than another repeats a part of it. A mend keeps the
+//! content key of the file, so none of its nonces may ever have been used in
+//! that file; row 8 knows only those that are in it now.
 //!
 //! ```
 //! use skrapnefja::{Combo, Label, Refusal, Vault};
@@ -35,11 +38,11 @@
 //! # Ok::<(), Refusal>(())
 //! ```
 //!
-//! `examples/unlock.rs` goes from these two files to an open file, and
-//! `examples/vault.rs` shows more of the calls. The library is looked for in
-//! `target/staticlib` of the repository, where `rt staticlib skrapnefja`
-//! writes it, or in the folder that the environment variable
-//! `SKRAPNEFJA_LIB_DIR` names at build time.
+//! `examples/unlock.rs` goes from these two files to an open file,
+//! `examples/vault.rs` shows more of the calls, and `examples/mend.rs` corrects a
+//! log in place. The library is looked for in `target/staticlib` of the
+//! repository, where `rt staticlib skrapnefja` writes it, or in the folder that
+//! the environment variable `SKRAPNEFJA_LIB_DIR` names at build time.
 
 #![warn(missing_docs)]
 
@@ -59,6 +62,7 @@ mod vault;
 
 pub use chunk::CHUNK_LEN;
 pub use combo::Combo;
+pub use file::covering_chunks;
 pub use header::OpenedHeader;
 pub use keys::{unwrap_key, wrap_key, KEY_LEN, WRAPPED_KEY_LEN};
 pub use label::{Label, MAX_LABEL_LEN, MAX_THRESHOLD, MIN_THRESHOLD, RAW_KEY_LEN};

@@ -19,7 +19,8 @@ pub(crate) const NO_PLACE: u64 = u64::MAX;
 #[derive(Clone, Copy, Debug, PartialEq, Eq, Hash)]
 pub enum Refusal {
     /// Row 1: a key is not 32 bytes, a raw key is not 64, a nonce is not 12 in
-    /// SIV_GCM or 16 in SIV_CTRMAC, or there is not one nonce for each chunk.
+    /// SIV_GCM or 16 in SIV_CTRMAC, or there is not one nonce for each chunk to
+    /// write.
     KeyOrNonceSize,
     /// Row 2: the directory ID has more than 36 bytes, or one of 128 or more.
     DirectoryId,
@@ -41,7 +42,8 @@ pub enum Refusal {
     Range,
     /// Row 7: a buffer has not the room for what goes into it.
     Room,
-    /// Row 8: two chunks to write have the same nonce.
+    /// Row 8: two chunks to write have the same nonce; or one of them has that
+    /// of a chunk now in the file, where a file is mended.
     RepeatedNonce,
     /// Row 9: the header's tag (SIV_GCM) or MAC (SIV_CTRMAC) is wrong.
     Header,
@@ -144,7 +146,7 @@ impl Display for Refusal {
             }
             Refusal::Range => "the range ends behind the cleartext",
             Refusal::Room => "a buffer is too short",
-            Refusal::RepeatedNonce => "two chunks have the same nonce",
+            Refusal::RepeatedNonce => "a chunk nonce is used twice",
             Refusal::Header => "the header is not genuine",
             Refusal::Chunk(number) => return write!(f, "chunk {number} is not genuine"),
             Refusal::HashName => "the full name does not belong to the stored name",

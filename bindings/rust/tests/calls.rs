@@ -44,11 +44,21 @@ fn nonce(vault: &Vault) -> Vec<u8> {
     vec![4; vault.combo().nonce_len()]
 }
 
-/// A file of up to 256 chunks.
+/// Chunk nonces, each of one of these bytes all over.
+fn nonces(vault: &Vault, bytes: &[u8]) -> Vec<u8> {
+    let nonces = bytes.iter().map(|&i| vec![i; vault.combo().nonce_len()]);
+    nonces.collect::<Vec<_>>().concat()
+}
+
+/// A file of up to 256 chunks, with the nonces 0, 1, ..
 fn file(vault: &Vault, cleartext: &[u8]) -> Vec<u8> {
     let chunks = 0..cleartext.len().div_ceil(CHUNK_LEN);
-    let nonces = chunks.map(|i| vec![i as u8; vault.combo().nonce_len()]);
-    let nonces = nonces.collect::<Vec<_>>().concat();
+    let bytes: Vec<_> = chunks.map(|i| i as u8).collect();
+    file_with(vault, &bytes, cleartext)
+}
+
+fn file_with(vault: &Vault, bytes: &[u8], cleartext: &[u8]) -> Vec<u8> {
+    let nonces = nonces(vault, bytes);
     let length = vault.file_length(cleartext.len() as u64);
     done(length.expect("within the limit"), |out| {
         vault.write_file(&nonce(vault), &CONTENT_KEY, &nonces, cleartext, out)
@@ -331,6 +341,173 @@ fn ranges() {
         assert_eq!(read(&flipped(&file, 0), 0, 0, 9), Refusal::Header);
         assert_eq!(read(&damaged, 32_767, 2, 9), Refusal::Chunk(0));
     }
+}
+
+/// The file as a mend leaves it.
+fn mended(
+    vault: &Vault,
+    file: &[u8],
+    from: u64,
+    new_bytes: &[u8],
+    nonces: &[u8],
+) -> Result<Vec<u8>, Refusal> {
+    let mut mended = file.to_vec();
+    match vault.mend(&mut mended, from, new_bytes, nonces) {
+        Ok(count) => assert_eq!(count, new_bytes.len()),
+        Err(refusal) => {
+            assert!(mended == file, "a refusal changes nothing");
+            return Err(refusal);
+        }
+    }
+    Ok(mended)
+}
+
+/// A mended file is the one that is written with the new bytes and with the
+/// lent nonces, 8 and 9.
+#[test]
+fn mends() {
+    let old = two_chunks();
+    for vault in COMBOS.map(vault) {
+        let file = file(&vault, &old);
+        for (from, count, bytes, lent) in [
+            (32_767, 2, [8, 9], &[8, 9][..]),
+            (0, 32_778, [8, 9], &[8, 9]),
+            (5, 7, [8, 1], &[8]),
+            (32_767, 1, [8, 1], &[8]),
+            (32_768, 10, [0, 9], &[9]),
+        ] {
+            let mut cleartext = old.clone();
+            let new_bytes = &mut cleartext[from..from + count];
+            new_bytes.iter_mut().for_each(|byte| *byte = !*byte);
+            let lent = nonces(&vault, lent);
+            let mended = mended(&vault, &file, from as u64, new_bytes, &lent);
+            assert!(mended.expect("a range inside") == file_with(&vault, &bytes, &cleartext));
+        }
+    }
+}
+
+#[test]
+fn refused_mends() {
+    let cleartext = two_chunks();
+    let end = cleartext.len() as u64;
+    for combo in COMBOS {
+        let (vault, header) = (vault(combo), combo.header_len());
+        let file = file(&vault, &cleartext);
+        let mend = |file: &[u8], from, bytes: &[u8]| {
+            let nonces = nonces(&vault, bytes);
+            mended(&vault, file, from, b"ab", &nonces).expect_err("should be refused")
+        };
+        assert_eq!(mend(&file, 0, &[8, 9]), Refusal::KeyOrNonceSize);
+        assert_eq!(mend(&file, u64::MAX, &[8]), Refusal::KeyOrNonceSize);
+        let cut = &nonces(&vault, &[8, 9])[1..];
+        let row = mended(&vault, &file, 32_767, b"ab", cut);
+        assert_eq!(row, Err(Refusal::KeyOrNonceSize));
+        assert_eq!(mend(&file[..67], 32_767, &[8, 9]), Refusal::Length);
+        assert_eq!(mend(&file, end - 1, &[8]), Refusal::Range);
+        assert_eq!(mend(&file, u64::MAX, &[8, 9]), Refusal::Range);
+        for bytes in [[8, 8], [0, 8], [1, 8], [8, 0], [8, 1]] {
+            assert_eq!(mend(&file, 32_767, &bytes), Refusal::RepeatedNonce);
+        }
+        assert_eq!(mend(&file, 32_768, &[0]), Refusal::RepeatedNonce);
+        let damaged = flipped(&file, header - 1);
+        assert_eq!(mend(&damaged, 32_767, &[8, 9]), Refusal::Header);
+        let damaged = flipped(&file, header);
+        assert_eq!(mend(&damaged, 32_767, &[8, 9]), Refusal::Chunk(0));
+        let damaged = flipped(&file, file.len() - 1);
+        assert_eq!(mend(&damaged, 32_767, &[8, 9]), Refusal::Chunk(1));
+
+        // Each row with what is tried after it.
+        let bad = flipped(&damaged, header - 1);
+        assert_eq!(mend(&bad[..67], u64::MAX, &[1]), Refusal::KeyOrNonceSize);
+        assert_eq!(mend(&bad[..67], u64::MAX, &[1, 1]), Refusal::Length);
+        assert_eq!(mend(&bad, end - 1, &[1]), Refusal::Range);
+        assert_eq!(mend(&bad, end - 2, &[1]), Refusal::RepeatedNonce);
+        assert_eq!(mend(&bad, end - 2, &[8]), Refusal::Header);
+    }
+}
+
+/// A bad chunk that is not covered stays as it is, and its nonce counts. That of
+/// the header does not.
+#[test]
+fn mends_beside_a_bad_chunk() {
+    let cleartext = two_chunks();
+    for combo in COMBOS {
+        let vault = vault(combo);
+        let file = file(&vault, &cleartext);
+        let damaged = flipped(&file, file.len() - 1);
+        let mended = mended(&vault, &damaged, 0, b"ab", &nonce(&vault)).expect("a good chunk");
+        let second = combo.header_len() + CHUNK_LEN + combo.chunk_overhead();
+        assert_eq!(mended[second..], damaged[second..]);
+        let read = done(3, |out| vault.read_range(&mended, 0, 3, out));
+        assert_eq!(read, b"ab\x02");
+        let refusal = refused(cleartext.len(), |out| vault.open_file(&mended, out));
+        assert_eq!(refusal, Refusal::Chunk(1));
+
+        let used = nonces(&vault, &[1]);
+        let row = self::mended(&vault, &damaged, 0, b"ab", &used);
+        assert_eq!(row, Err(Refusal::RepeatedNonce));
+    }
+}
+
+/// Without new bytes there is no nonce, and the header alone is looked at.
+#[test]
+fn empty_mends() {
+    let cleartext = two_chunks();
+    let end = cleartext.len() as u64;
+    for combo in COMBOS {
+        let (vault, header) = (vault(combo), combo.header_len());
+        let file = file(&vault, &cleartext);
+        let damaged = flipped(&flipped(&file, header), file.len() - 1);
+        let mend = |file: &[u8], from, nonces: &[u8]| mended(&vault, file, from, b"", nonces);
+        for from in [0, 5, 32_768, end] {
+            assert!(mend(&damaged, from, b"") == Ok(damaged.clone()));
+        }
+        let empty = file_with(&vault, &[], b"");
+        assert_eq!(mend(&empty, 0, b""), Ok(empty.clone()));
+
+        let one = nonce(&vault);
+        assert_eq!(mend(&file, 0, &one), Err(Refusal::KeyOrNonceSize));
+        assert_eq!(mend(&file[..67], 0, b""), Err(Refusal::Length));
+        assert_eq!(mend(&file, end + 1, b""), Err(Refusal::Range));
+        assert_eq!(mend(&file, u64::MAX, b""), Err(Refusal::Range));
+        assert_eq!(mend(&flipped(&file, 0), 0, b""), Err(Refusal::Header));
+    }
+}
+
+/// Row 1 counts as `covering_chunks` does, also where the range is not inside.
+#[test]
+fn covered_chunks() {
+    for (from, count, chunks) in [
+        (0, 0, 0),
+        (u64::MAX, 0, 0),
+        (0, 1, 1),
+        (0, 32_768, 1),
+        (0, 32_769, 2),
+        (1, 32_768, 2),
+        (32_767, 1, 1),
+        (32_767, 2, 2),
+        (32_768, 1, 1),
+        (32_767, 32_770, 3),
+        (u64::MAX - 32_767, 32_768, 1),
+        (u64::MAX - 32_767, 32_769, 2),
+        (u64::MAX, 1, 1),
+        (u64::MAX, 2, 2),
+        (u64::MAX, 32_770, 3),
+    ] {
+        assert_eq!(covering_chunks(from, count), chunks, "{from}, {count}");
+        let new_bytes = vec![0; count as usize];
+        for vault in COMBOS.map(vault) {
+            let file = file(&vault, b"");
+            for lent in 0..5 {
+                let nonces = nonces(&vault, &vec![8; lent as usize]);
+                let end = mended(&vault, &file, from, &new_bytes, &nonces);
+                let row_1 = end == Err(Refusal::KeyOrNonceSize);
+                assert_eq!(row_1, lent != chunks, "{from}, {count}, {lent}");
+            }
+        }
+    }
+    assert_eq!(covering_chunks(0, u64::MAX), 1 << 49);
+    assert_eq!(covering_chunks(u64::MAX, u64::MAX), (1 << 49) + 1);
 }
 
 #[test]

@@ -17,7 +17,7 @@ type Functions = BTreeMap<String, Vec<String>>;
 #[test]
 fn same_functions() {
     let (c, rust) = (c_functions(), rust_functions());
-    assert_eq!(c.len(), 17);
+    assert_eq!(c.len(), 18);
     assert_eq!(rust, c);
     assert_eq!(exported_functions(), c);
 }

@@ -7,7 +7,7 @@ use mathlib.Core.Logic.{⊎-elim}
 use native.Mathlib.Omega.{arith}
 use lib.Dec.{lit<}
 use lib.ListN.{length, take, drop, getD, length-append, length-drop, List·getD-append}
-use lib.Seq.{getD-append-add, getD-drop, getD-take, length-take-le, ext-getD, drop-drop}
+use lib.Seq.{getD-append-add, getD-drop, getD-take, length-take-le, ext-getD, drop-at, drop-drop}
 use lib.Bits.{bitXor}
 use Rattle.octets.specs.Bytes.{Bytes, filled}
 use Rattle.octets.specs.Xors.{xors}
@@ -50,6 +50,13 @@ module _ (inc e : List ℕ → List ℕ) (bs : (s : List ℕ) → Bytes (e s)) w
   ctr-bytes c h = bytes-xors h (keystream-bytes c _)
 
 -- ---- by bytes and parts
+
+-- The w places from j on become those of t, as the first j places of out are.
+part-more : (t d out part : List ℕ) (j w : ℕ) → j + w ≤ length t → j + w ≤ length d → out ≡ filled t j d → part ≡ take w (drop j t)
+    → (length (take j out ++ (part ++ drop (j + w - j) (drop j out))) ≡ length d) × (take j out ++ (part ++ drop (j + w - j) (drop j out)) ≡ filled t (j + w) d)
+part-more t d out part j w h i f p =
+    let r = ap (λ (x : List ℕ). take j x ++ (part ++ drop (j + w - j) (drop j x))) f ∙ fill-part t d part j w h i p in
+    (ap length r ∙ filled-length t d (j + w) h i, r)
 
 module _ (inc e : List ℕ → List ℕ) (le : BlockCipher e) where
   keystream-at : (m : ℕ) (c : List ℕ) (k : ℕ) → k < 16 * m → getD (keystream inc e c m) k 0 ≡ getD (e (after inc (k / 16) c)) (k % 16) 0
@@ -113,5 +120,21 @@ module _ (inc e : List ℕ → List ℕ) (le : BlockCipher e) where
         let p : part ≡ take w (drop j t) =
         g ∙ ap₂ (λ (x : ℕ) (y : List ℕ). xors (take x (drop (lo + j) src)) (drop ((lo + j) % 16) y)) q b
         ∙ text-part (lo + j) w (omega arith) m ∙ ap (take w) (sym (drop-drop j lo text)) in
-        let r = ap (λ (x : List ℕ). take j x ++ (part ++ drop (j + w - j) (drop j x))) f ∙ fill-part t d part j w (omega arith) i p in
-        (ap length r ∙ filled-length t d (j + w) (omega arith) i, r)
+        part-more t d out part j w (omega arith) i f p
+
+    -- The same in place: out was src itself, and what is added to stands in out.
+    pub text-more-in-place : (out : List ℕ) (j w : ℕ) {k part : List ℕ} → j + w ≤ length src → j % 16 + w ≤ 16
+        → out ≡ filled (ctr inc e first src) j src
+        → k ≡ e (after inc (j / 16) first)
+        → part ≡ xors (take (j + w - j) (drop j out)) (drop (j % 16) k)
+        → (length (take j out ++ (part ++ drop (j + w - j) (drop j out))) ≡ length src)
+        × (take j out ++ (part ++ drop (j + w - j) (drop j out)) ≡ filled (ctr inc e first src) (j + w) src)
+    text-more-in-place out j w {k} {part} i m f b g =
+        let t = ctr inc e first src in
+        let u : length t ≡ length src = length-ctr inc e le first src in
+        let q : j + w - j ≡ w = omega arith in
+        let r : drop j out ≡ drop j src = ap (drop j) f ∙ drop-at (take j t) (drop j src) j (length-take-le j t (omega arith)) in
+        let p : part ≡ take w (drop j t) =
+        g ∙ ap₂ (λ (x y : List ℕ). xors (take (j + w - j) x) (drop (j % 16) y)) r b ∙ ap (λ (x : ℕ). xors (take x (drop j src)) (drop (j % 16) (e (after inc (j / 16) first)))) q
+        ∙ text-part j w i m in
+        part-more t src out part j w (omega arith) i f p

@@ -1,5 +1,6 @@
 // Counter mode with AES-256 and a counter of 32 or of 128 bits, applied from any byte of the text on.
 mod counter;
+pub mod in_place;
 
 use crate::counter::counter_at;
 use aes::block::Block;
@@ -41,7 +42,17 @@ fn whole(t: &[u32; 256], w: &[u32], c: Block, src: &[u8], out: &mut [u8])
     put_word(word_at(src, 12) ^ k.d, out, 12);
 }
 
-// The same of a block or a part of one, whose first byte is the block's byte r.
+// Enciphers the counter block c and adds it to a part of a block, whose first byte is the block's byte r.
+fn part(t: &[u32; 256], w: &[u32], c: Block, r: usize, text: &mut [u8])
+    requires { ⌜ now t ≡ roundTable ⌝ }
+    requires { ⌜ (60 ≤ length (now w)) × (r + length (now text) ≤ 16) ⌝ }
+    ensures { λ _. ⌜ now (text .exit) ≡ xors (now (text .entry)) (drop r (cipher 14 (now (w .entry)) (state c))) ⌝ }
+{
+    let bytes = to_bytes(encrypt(t, w, c));
+    xor_into(&bytes[r..], text);
+}
+
+// The same of a block or a part of one, from src into out.
 fn apply(t: &[u32; 256], w: &[u32], c: Block, r: usize, src: &[u8], out: &mut [u8])
     requires { ⌜ now t ≡ roundTable ⌝ }
     requires { ⌜ (60 ≤ length (now w)) × (r + length (now src) ≤ 16) × (length (now out) ≡ length (now src)) ⌝ }
@@ -50,9 +61,8 @@ fn apply(t: &[u32; 256], w: &[u32], c: Block, r: usize, src: &[u8], out: &mut [u
     if src.len() == 16 {
         whole(t, w, c, src, out);
     } else {
-        let bytes = to_bytes(encrypt(t, w, c));
         copy_at(src, out, 0);
-        xor_into(&bytes[r..], out);
+        part(t, w, c, r, out);
     }
 }
 

@@ -20,7 +20,8 @@ use Rattle.siv_ctrmac.specs.SivCtrmac as ctrmac
 use Rattle.vault.specs.declared.record.Combo.{Combo}
 use Rattle.vault.specs.declared.record.Combo.the-variants.{SivGcm, SivCtrmac}
 use Rattle.vault.specs.Vault.{sizesOf, codecWith}
-use Rattle.file_read.specs.Under.{plainUnder, badUnder, readUnder}
+use Rattle.file_parts.specs.Under.{plainUnder, badUnder}
+use Rattle.file_read.specs.Under.{readUnder}
 
 module _ (c : Combo) (mac n k f : List ℕ) (from count : ℕ) (out : List ℕ) where
   pub under-bad : badUnder c mac n k f from count < from / chunkSize + covering from count

@@ -1,12 +1,12 @@
 // A range read once its sizes are known to fit: the header, every covering tag or MAC, and only then the cleartext.
-use crate::chunks::end_chunk;
-use crate::chunks::lowest_bad;
 use crate::range::write_range;
 use aes::round_table::table;
 use answer::Answer;
 use answer::Refusal;
+use file_parts::chunks::end_chunk;
+use file_parts::chunks::lowest_bad;
+use file_parts::header::open_head;
 use gcm::key::prepare;
-use vault::header::open_header;
 use vault::record::Combo;
 use vault::sizes::sizes_of;
 ghost use mathlib.Core.Path.{_≡_};
@@ -67,8 +67,7 @@ pub fn read_inside(
 {
     let t = table();
     let mut payload = [0u8; 40];
-    let h = sizes_of(combo).header;
-    if !open_header(combo, &t, enc, mac, &file[..h], &mut payload) {
+    if !open_head(combo, &t, enc, mac, file, &mut payload) {
         return Answer::Refused(Refusal::Header);
     }
     read_under(combo, &t, &payload[8..40], mac, file, n, from, count, out)

@@ -1,11 +1,10 @@
 // The file writer, under the vault's record.
 mod chunks;
-mod nonces;
 
 use crate::chunks::write_chunks;
-use crate::nonces::repeats;
 use answer::Answer;
 use answer::Refusal;
+use file_parts::nonces::repeats;
 use gcm::key::prepare;
 use vault::header::seal_header;
 use vault::lengths::file_length;

@@ -39,10 +39,10 @@ length-exactly z l = (
 -- ---- equal nonces
 
 -- the pieces after the first
-piece-drop : (w i : ℕ) (l : List ℕ) → piece w (drop w l) i ≡ piece w l (suc i)
+pub piece-drop : (w i : ℕ) (l : List ℕ) → piece w (drop w l) i ≡ piece w l (suc i)
 piece-drop w i l = let e : w + w * i ≡ w * suc i = omega (arith, mul-suc w i) in rw (drop-drop (w * i) w l, e)
 
-piece-first : (w : ℕ) (l : List ℕ) → take w l ≡ piece w l 0
+pub piece-first : (w : ℕ) (l : List ℕ) → take w l ≡ piece w l 0
 piece-first w l = rw mul-zero
 
 among-exactly : (w k : ℕ) (x l : List ℕ) → (among w k x l ≡ false) ↔ ((j : ℕ) → j < k → x ≡ piece w l j → ⊥)
@@ -92,7 +92,7 @@ module _ (C : Codec) (f : List ℕ) where
   abbrev Good : ℕ → Type 0
   Good i = good (headIn C f) i (chunkAt z f i) ≡ true
 
-  covering-good : (from count : ℕ)
+  pub covering-good : (from count : ℕ)
       → (from / chunkSize + covering from count ≤ badChunk C f from count) ↔ ((i : ℕ) → 0 < count → from / chunkSize ≤ i → i ≤ (from + count - 1) / chunkSize → Good i)
   unfolding badChunk
   covering-good from count =
@@ -112,7 +112,7 @@ module _ (C : Codec) (f : List ℕ) where
 
 -- ---- the rows of each call
 
-row-test : {m n : ℕ} {A : Type 0} → (n ≤ m) ↔ A → (ltb m n ≡ false) ↔ A
+pub row-test : {m n : ℕ} {A : Type 0} → (n ≤ m) ↔ A → (ltb m n ≡ false) ↔ A
 row-test {m} {n} f = (λ e. f .0 (ltb-false m n e), λ a. le-ltb m n (f .1 a))
 
 module _ (C : Codec) (Keys : Type 0) (keys : (C .keysRight ≡ true) ↔ Keys) where

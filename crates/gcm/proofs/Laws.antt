@@ -5,7 +5,7 @@ use mathlib.Core.Path.{_≡_, refl, sym, _∙_, ap, ap₂}
 use mathlib.Core.Bool.{true}
 use mathlib.Core.List.{List, _++_}
 use native.Mathlib.Omega.{arith}
-use lib.ListN.{length, take, drop, length-append, take-append-drop}
+use lib.ListN.{length, take, drop, length-append, length-drop, take-append-drop}
 use lib.Seq.{take-at, drop-at, length-take-le}
 use Rattle.octets.specs.Bytes.{Bytes, same}
 use Rattle.octets.specs.BigEndian.{be}
@@ -14,7 +14,7 @@ use Rattle.octets.proofs.Bytes.{below-append, below-take, bytes-be}
 use Rattle.octets.proofs.Equality.{same-self, same-eq}
 use Rattle.ctr.specs.Ctr.{inc32}
 use Rattle.ctr.proofs.Texts.{length-ctr, ctr-twice, ctr-bytes}
-use Rattle.gcm.specs.Gcm.{crypt, subkey, hashed, j0, tag, seal, good, plain}
+use Rattle.gcm.specs.Gcm.{ciphertextOf, crypt, subkey, hashed, j0, tag, seal, good, plain}
 use Rattle.gcm.specs.Statements.{SealedOpens, OpenedWasSealed, Lengths, KeepsBytes}
 
 module _ (e : List ℕ → List ℕ) (le : (s : List ℕ) → length (e s) ≡ 16) where
@@ -44,6 +44,16 @@ module _ (e : List ℕ → List ℕ) (le : (s : List ℕ) → length (e s) ≡ 1
     end : drop (length (seal e iv a p) - 16) (seal e iv a p) ≡ tag e iv a (crypt e iv p)
     unfolding seal
     end = drop-at (crypt e iv p) (tag e iv a (crypt e iv p)) (length (seal e iv a p) - 16) (omega (arith, length-crypt iv p, length-seal))
+
+    -- A buffer of n bytes and a tag's room, whose first n bytes became the ciphertext y, with the tag written behind.
+    pub sealed-front : (y d : List ℕ) (n : ℕ) → length p ≡ n → length d ≡ n + 16 → y ≡ crypt e iv p
+        → ciphertextOf (y ++ drop n d) ++ tag e iv a (ciphertextOf (y ++ drop n d)) ≡ seal e iv a p
+    unfolding seal
+    sealed-front y d n h k q =
+        let l : length y ≡ n = ap length q ∙ length-crypt iv p ∙ h in
+        let m = length (y ++ drop n d) - 16 in
+        let t : take m (y ++ drop n d) ≡ y = take-at y (drop n d) m (omega (arith, l, k, length-append y (drop n d), length-drop n d)) in
+        ap (λ (x : List ℕ). x ++ tag e iv a x) (t ∙ q)
 
     pub good-seal : good e iv a (seal e iv a p) ≡ true
     unfolding good

@@ -43,6 +43,15 @@ pub fn crypt(t: &[u32; 256], w: &[u32], nonce: &[u8], src: &[u8], lo: usize, out
     ctr::crypt(t, w, counter(nonce, 2), src, lo, out);
 }
 
+// The same in place: the text becomes what it is enciphered or deciphered to.
+pub fn crypt_in_place(t: &[u32; 256], w: &[u32], nonce: &[u8], text: &mut [u8])
+    requires { ⌜ now t ≡ roundTable ⌝ }
+    requires { ⌜ (60 ≤ length (now w)) × (length (now nonce) ≡ 12) ⌝ }
+    ensures { λ _. ⌜ now (text .exit) ≡ spec.crypt (cipher 14 (now (w .entry))) (now (nonce .entry)) (now (text .entry)) ⌝ }
+{
+    ctr::in_place::crypt_in_place(t, w, counter(nonce, 2), text);
+}
+
 pub fn tag(
     t: &[u32; 256],
     w: &[u32],
@@ -79,6 +88,17 @@ pub fn good(
     equal(x, block_at(sealed, n))
 }
 
+// Writes the tag of the ciphertext that out begins with into its last 16 bytes.
+fn put_tag(t: &[u32; 256], w: &[u32], m: &[u64; 32], nonce: &[u8], aad: &[u8], out: &mut [u8])
+    requires { ⌜ Keyed (now t) (now w) (now m) ⌝ }
+    requires { ⌜ (length (now nonce) ≡ 12) × (length (now aad) < 2 ^ 61) × (16 ≤ length (now out)) × (length (now out) < 2 ^ 61 + 16) ⌝ }
+    ensures { λ _. ⌜ now (out .exit) ≡ spec.ciphertextOf (now (out .entry)) ++ spec.tag (cipher 14 (now (w .entry))) (now (nonce .entry)) (now (aad .entry)) (spec.ciphertextOf (now (out .entry))) ⌝ }
+{
+    let n = out.len() - 16;
+    let x = tag(t, w, m, nonce, aad, &out[..n]);
+    copy_at(&to_bytes(x), out, n);
+}
+
 // Writes the sealed cleartext to out, which has just its length.
 pub fn seal(
     t: &[u32; 256],
@@ -96,6 +116,23 @@ pub fn seal(
 {
     let n = cleartext.len();
     crypt(t, w, nonce, cleartext, 0, &mut out[..n]);
-    let x = tag(t, w, m, nonce, aad, &out[..n]);
-    copy_at(&to_bytes(x), out, n);
+    put_tag(t, w, m, nonce, aad, out);
+}
+
+// Seals in place: out holds the cleartext, and behind it the room of the tag.
+pub fn seal_in_place(
+    t: &[u32; 256],
+    w: &[u32],
+    m: &[u64; 32],
+    nonce: &[u8],
+    aad: &[u8],
+    out: &mut [u8],
+)
+    requires { ⌜ Keyed (now t) (now w) (now m) ⌝ }
+    requires { ⌜ (length (now nonce) ≡ 12) × (length (now aad) < 2 ^ 61) × (16 ≤ length (now out)) × (length (now out) < 2 ^ 61) ⌝ }
+    ensures { λ _. ⌜ now (out .exit) ≡ spec.seal (cipher 14 (now (w .entry))) (now (nonce .entry)) (now (aad .entry)) (take (length (now (out .entry)) - 16) (now (out .entry))) ⌝ }
+{
+    let n = out.len() - 16;
+    crypt_in_place(t, w, nonce, &mut out[..n]);
+    put_tag(t, w, m, nonce, aad, out);
 }

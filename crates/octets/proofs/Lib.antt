@@ -1,6 +1,7 @@
 pub mod Bits
 pub mod Lists
 pub mod Bytes
+pub mod Placed
 pub mod Xors
 pub mod Equality
 pub mod Words

@@ -99,6 +99,17 @@ placed-rest v c d xs n e l =
     let q : drop (length xs - n) (drop n xs) ≡ [] = drop-all (length xs - n) (drop n xs) (rw length-drop (omega arith)) in
     ap₂ (λ (x y : List ℕ). x ++ (c ++ y)) p q ∙ ap (λ (x : List ℕ). v ++ x) (append-nil c)
 
+-- What stands behind v then is as it was.
+pub rest-kept : (v d xs : List ℕ) (n : ℕ) → xs ≡ placed v 0 d → length v ≡ n → drop n xs ≡ drop n d
+rest-kept v d xs n e l =
+    let k : 0 + length v ≡ n = omega arith in
+    ap (drop n) e ∙ drop-at v (drop (0 + length v) d) n l ∙ ap (λ (j : ℕ). drop j d) k
+
+-- The n places of a buffer from `at` on were lent, and hold s now.
+pub placed-part : (s d : List ℕ) (at n : ℕ) → length s ≡ n → take at d ++ (s ++ drop n (drop at d)) ≡ placed s at d
+placed-part s d at n h =
+    rw drop-drop (sym (append-assoc (take at d) s (drop (at + n) d)) ∙ ap (λ (k : ℕ). (take at d ++ s) ++ drop (at + k) d) (sym h))
+
 -- y at the front of a buffer, and t written behind it to the buffer's end.
 pub placed-behind : (y t d : List ℕ) (n : ℕ) → length y ≡ n → length d ≡ n + length t → placed t n (y ++ drop n d) ≡ y ++ t
 placed-behind y t d n h k =

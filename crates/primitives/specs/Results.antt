@@ -8,7 +8,7 @@ use lib.ListN.{length}
 use Rattle.octets.specs.Bytes.{placed}
 use Rattle.aes_spec.specs.Cipher.{aes}
 use Rattle.aes_inverse.specs.InverseCipher.{inverseAes}
-use Rattle.ctr.specs.Ctr.{inc128, ctr}
+use Rattle.ctr.specs.Ctr.{inc128, incOf, ctr}
 use Rattle.gcm.specs.Gcm.{seal, good, plain}
 use Rattle.encoding.specs.Base32 as base32
 use Rattle.encoding.specs.Base64url as base64url
@@ -57,10 +57,18 @@ gcmOpen key nonce aad sealed d =
     && good (aes 8 key) nonce aad sealed)
     (plain (aes 8 key) nonce sealed) d
 
+-- A number that is not 0 says yes.
+abbrev pub isSet : ℕ → Bool
+isSet n = not (eqb n 0)
+
 -- Counter mode with a counter of 128 bits.
 unfoldable pub ctr128 : List ℕ → List ℕ → List ℕ → List ℕ → End
 ctr128 key first text d =
     doneIf (eqb (length key) 32 && eqb (length first) 16 && leb (length text) (length d)) (ctr inc128 (aes 8 key) first text) d
+
+-- Counter mode in place, with a counter of 128 bits or of 32.
+unfoldable pub ctrInPlace : List ℕ → List ℕ → ℕ → List ℕ → End
+ctrInPlace key first wide text = doneIf (eqb (length key) 32 && eqb (length first) 16) (ctr (incOf (isSet wide)) (aes 8 key) first text) text
 
 unfoldable pub cmac256 : List ℕ → List ℕ → List ℕ → End
 cmac256 key message d = doneIf (eqb (length key) 32 && leb 16 (length d)) (cmac (aes 8 key) message) d
@@ -68,10 +76,6 @@ cmac256 key message d = doneIf (eqb (length key) 32 && leb 16 (length d)) (cmac 
 -- The sizes that SIV takes here, of a text of n bytes.
 unfoldable pub sivFits : List ℕ → List ℕ → ℕ → Bool
 sivFits mac enc n = eqb (length mac) 32 && eqb (length enc) 32 && leb n 1024
-
--- A number that is not 0 says yes.
-abbrev pub isSet : ℕ → Bool
-isSet n = not (eqb n 0)
 
 unfoldable pub sivSeal : List ℕ → List ℕ → ℕ → List ℕ → List ℕ → List ℕ → End
 sivSeal mac enc given ad cleartext d =

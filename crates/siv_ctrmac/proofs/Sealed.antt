@@ -82,6 +82,15 @@ module _ (e : List ℕ → List ℕ) (le : (s : List ℕ) → length (e s) ≡ 1
         sym (take-append-drop (length b - 32) b) ∙ ap₂ (λ (x y : List ℕ). x ++ y) f (sym t ∙ ap (λ (x : List ℕ). m (a ++ x)) f)
         ∙ ap (λ (x : List ℕ). (n ++ x) ++ m (a ++ (n ++ x))) (sym again)
 
+-- A buffer of k bytes and a MAC's room, whose first k bytes became the nonce and the ciphertext, with the MAC written behind.
+pub sealed-front : (e m : List ℕ → List ℕ) (a n p y d : List ℕ) (k : ℕ) → length y ≡ k → length d ≡ k + 32 → y ≡ n ++ crypt e n p
+    → take (length (y ++ drop k d) - 32) (y ++ drop k d) ++ m (a ++ take (length (y ++ drop k d) - 32) (y ++ drop k d)) ≡ sealed e m a n p
+unfolding sealed
+sealed-front e m a n p y d k h l q =
+    let j = length (y ++ drop k d) - 32 in
+    let t : take j (y ++ drop k d) ≡ y = take-at y (drop k d) j (omega (arith, h, l, length-append y (drop k d), length-drop k d)) in
+    ap (λ (x : List ℕ). x ++ m (a ++ x)) (t ∙ q)
+
 -- ---- the statement
 
 pub mac-covers : MacCovers

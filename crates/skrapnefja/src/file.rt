@@ -1,6 +1,7 @@
-// A whole file, and a range of one.
+// A whole file, and a range of one: read, or replaced in place.
 use crate::ending::end;
 use crate::ending::end_at;
+use file_mend::mend;
 use file_read::open_file;
 use file_read::read_range;
 use file_write::write_file;
@@ -8,6 +9,7 @@ use vault_bytes::lent_row;
 use vault_bytes::vault_in;
 ghost use mathlib.Core.Path.{_≡_};
 ghost use Rattle.frame.specs.Frame.{ownChoice, readRange, openFile, writeFile};
+ghost use Rattle.mend_spec.specs.Mend.{mendFile};
 ghost use Rattle.vault.specs.Vault.{codecOf};
 ghost use Rattle.vault_bytes.specs.VaultBytes.{lentEnd};
 ghost use Rattle.skrapnefja.specs.Results.{result, resultOf, placedResult, placedResultOf};
@@ -79,6 +81,30 @@ pub extern "C" fn skrapnefja_read_range(
     }
     end_at(
         read_range(vault_in(vault), file, from as usize, count as usize, out),
+        written,
+        at,
+    )
+}
+
+// Replaces the bytes of the cleartext of a file from `from` on, in place; `nonces` has one nonce for each chunk that covers the range, in order.
+#[no_mangle]
+pub extern "C" fn skrapnefja_mend(
+    vault: &[u8],
+    file: &mut [u8],
+    from: u64,
+    new_bytes: &[u8],
+    nonces: &[u8],
+    written: &mut u64,
+    at: &mut u64,
+) -> u32
+    ensures { λ r. ⌜ placedResult r (now (file .exit)) (now (written .exit)) (now (at .exit)) ≡ placedResultOf (lentEnd (now (vault .entry)) (λ v. mendFile (codecOf v) (now (file .entry)) from (now («new_bytes» .entry)) (now (nonces .entry))) (now (file .entry))) (now (written .entry)) (now (at .entry)) ⌝ }
+{
+    let row = lent_row(vault);
+    if row != 0 {
+        return row;
+    }
+    end_at(
+        mend(vault_in(vault), file, from as usize, new_bytes, nonces),
         written,
         at,
     )

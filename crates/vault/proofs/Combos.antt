@@ -1,7 +1,7 @@
 -- What holds of either combo.
 -- Assumes nothing.
 use Prim.Native.Nat.{ℕ, _-_, _≤_}
-use mathlib.Core.Path.{_≡_, refl, sym, ap}
+use mathlib.Core.Path.{_≡_, refl, sym, ap, subst}
 use mathlib.Core.Bool.{true}
 use mathlib.Core.List.{List}
 use mathlib.Core.Logic.{_↔_}
@@ -15,6 +15,8 @@ use Rattle.frame.specs.Rules.{KeySizes}
 use Rattle.frame.specs.Single.{writeChunkRows, writeChunk, openChunkRows, openChunk}
 use Rattle.frame.specs.SingleStatements.{ChunksIgnoreReserved}
 use Rattle.frame.proofs.KeySizes.{keys-exactly}
+use Rattle.siv_gcm.specs.SivGcm as gcm-spec
+use Rattle.siv_ctrmac.specs.SivCtrmac as ctrmac-spec
 use Rattle.siv_gcm.proofs.Sealed as gcm-sealed
 use Rattle.siv_gcm.proofs.Instance as gcm
 use Rattle.siv_ctrmac.proofs.Sealed as ctrmac-sealed
@@ -22,7 +24,7 @@ use Rattle.siv_ctrmac.proofs.Instance as ctrmac
 use Rattle.vault.specs.declared.record.Combo.{Combo}
 use Rattle.vault.specs.declared.record.Combo.the-variants.{SivGcm, SivCtrmac}
 use Rattle.vault.specs.Vault.{sizesOf, codecWith}
-use Rattle.vault.specs.Under.{sealedUnder, openedUnder}
+use Rattle.vault.specs.Under.{sealedUnder, openedUnder, Tagged}
 use Rattle.vault.specs.Combos.{TwoCombos, ChunkKeys}
 
 pub small-overhead : (k : Combo) → sizesOf k .overhead ≤ 48
@@ -41,9 +43,20 @@ pub nonce-within : (k : Combo) → sizesOf k .nonce ≤ sizesOf k .header
 nonce-within SivGcm = lit≤ tt
 nonce-within SivCtrmac = lit≤ tt
 
+pub nonce-in-chunk : (k : Combo) → sizesOf k .nonce ≤ sizesOf k .overhead
+nonce-in-chunk SivGcm = lit≤ tt
+nonce-in-chunk SivCtrmac = lit≤ tt
+
 pub opened-size : (k : Combo) (e : List ℕ → List ℕ) → ((s : List ℕ) → length (e s) ≡ 16) → (b : List ℕ) → length (openedUnder k e b) ≡ length b - sizesOf k .overhead
 opened-size SivGcm e le b = gcm-sealed.opened-length e le b
 opened-size SivCtrmac e le b = ctrmac-sealed.length-opened e le b
+
+-- A good chunk of the combo at hand, as the combo itself says it.
+pub tagged-gcm : {k : Combo} (e : List ℕ → List ℕ) (c : List ℕ) → k ≡ SivGcm → Tagged k e c → gcm-spec.Tagged e c
+tagged-gcm e c h g = let t : Tagged SivGcm e c = subst (λ (x : Combo). Tagged x e c) h g in (gcm-spec.chunkData (t .1) (t .2), t .3)
+
+pub tagged-ctrmac : {k : Combo} (e : List ℕ → List ℕ) (c : List ℕ) → k ≡ SivCtrmac → Tagged k e c → ctrmac-spec.Tagged c
+tagged-ctrmac e c h g = let t : Tagged SivCtrmac e c = subst (λ (x : Combo). Tagged x e c) h g in (t .0, ctrmac-spec.chunkData (t .1) (t .2), t .3)
 
 -- The codec with its sizes, its test of the keys and its chunks by the combo, in reach of a variable combo.
 abbrev pub codecBy : Combo → List ℕ → List ℕ → Codec

@@ -1,9 +1,10 @@
 -- Chunks by the combo, under the block cipher e of the content key, the MAC master key and the header's nonce n; what the building blocks cite.
 -- Assumes nothing.
-use Prim.Native.Nat.{ℕ}
+use Prim.Native.Nat.{ℕ, _-_}
 use mathlib.Core.Path.{_≡_}
 use mathlib.Core.Bool.{Bool, true}
 use mathlib.Core.List.{List}
+use lib.ListN.{length, take, drop}
 use Rattle.hmac.specs.Hmac.{hmacSha256}
 use Rattle.frame.specs.Layout.{Sizes}
 use Rattle.siv_gcm.specs.SivGcm as gcm
@@ -25,6 +26,10 @@ goodUnder SivCtrmac e mac n i c = ctrmac.opens (hmacSha256 mac) (ctrmac.chunkDat
 abbrev pub openedUnder : Combo → (List ℕ → List ℕ) → List ℕ → List ℕ
 openedUnder SivGcm e c = gcm.opened e c
 openedUnder SivCtrmac e c = ctrmac.opened e c
+
+-- Where the cleartext of a chunk stands while it is worked on in place: behind the room of the nonce, before that of the tag or MAC.
+abbrev pub clearIn : Sizes → List ℕ → List ℕ
+clearIn z c = take (length c - z .overhead) (drop (z .nonce) c)
 
 -- The chunk c is good, under some MAC key, header nonce and number.
 abbrev pub Tagged : Combo → (List ℕ → List ℕ) → List ℕ → Type 0

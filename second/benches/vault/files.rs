@@ -1,6 +1,7 @@
-//! Whole files and ranges of them, in each combo.
+//! Whole files, ranges of them and mends, in each combo.
 
 use crate::inputs::{places, Cleartext, Vaults, CONTENT_KEY};
+use crate::mends;
 use crate::time::both;
 use second::vault::Combo;
 
@@ -15,6 +16,7 @@ pub fn run() {
         write(name, &vaults, &cleartext, file.len());
         open(name, &vaults, &file, cleartext.bytes.len());
         read_ranges(name, &vaults, &file);
+        mends::run(combo, name, &vaults, &cleartext, &file);
     }
 }
 

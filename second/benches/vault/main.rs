@@ -6,6 +6,7 @@ mod inputs;
 mod keys;
 mod labels;
 mod long_names;
+mod mends;
 mod names;
 mod parts;
 #[path = "../../tests/common"]
@@ -32,8 +33,9 @@ fn main() {
     println!(
         "The library and the second program, both as optimised builds, on the same inputs.\n\
          Answers are compared, byte for byte. Before each timed call or row of calls all bytes\n\
-         of the buffers for its answers are set to 0, so that their memory is there; inputs are\n\
-         left as they are. Each time is the least of {} rounds, in which the two take turns.\n",
+         of the buffers for its answers are set to 0, so that their memory is there, and a file\n\
+         that is mended to what it was; inputs are left as they are. Each time is the least of\n\
+         {} rounds, in which the two take turns.\n",
         time::ROUNDS
     );
     println!(

@@ -5,20 +5,33 @@ use std::time::{Duration, Instant};
 
 pub const ROUNDS: u32 = 7;
 
-/// Times both on the buffers, and prints the times and their ratio. Each gives
-/// how many bytes it wrote. Fails if one is refused, and unless both write as
-/// many bytes and the buffers are equal in the end.
+/// Times both on buffers of zeros, as [`both_after`] does.
 pub fn both<L: Debug, S: Debug>(
     name: &str,
     buffers: &mut [Vec<u8>],
+    library: impl FnMut(&mut [Vec<u8>]) -> Result<usize, L>,
+    second: impl FnMut(&mut [Vec<u8>]) -> Result<usize, S>,
+) -> [Duration; 2] {
+    both_after(name, buffers, |buffer| buffer.fill(0), library, second)
+}
+
+/// Times both, each after the buffers were set, and prints the times and their
+/// ratio. Each gives how many bytes it wrote. Fails if one is refused, and unless
+/// both write as many bytes and the buffers are equal in the end. Gives the times.
+pub fn both_after<L: Debug, S: Debug>(
+    name: &str,
+    buffers: &mut [Vec<u8>],
+    set: impl Fn(&mut Vec<u8>),
     mut library: impl FnMut(&mut [Vec<u8>]) -> Result<usize, L>,
     mut second: impl FnMut(&mut [Vec<u8>]) -> Result<usize, S>,
-) {
+) -> [Duration; 2] {
     let mut least = [Duration::MAX; 2];
     for _ in 0..ROUNDS {
+        buffers.iter_mut().for_each(&set);
         let (time, length) = once(buffers, &mut library);
         least[0] = least[0].min(time);
         let answers = buffers.to_vec();
+        buffers.iter_mut().for_each(&set);
         let (time, other_length) = once(buffers, &mut second);
         least[1] = least[1].min(time);
         let [length, other_length] = [
@@ -31,12 +44,10 @@ pub fn both<L: Debug, S: Debug>(
     let [library, second] = least.map(|time| time.as_secs_f64() * 1e3);
     let ratio = library / second;
     println!("{name:44} {library:9.2} ms {second:9.2} ms {ratio:7.2}");
+    least
 }
 
 fn once<R>(buffers: &mut [Vec<u8>], run: impl FnOnce(&mut [Vec<u8>]) -> R) -> (Duration, R) {
-    for buffer in &mut *buffers {
-        buffer.fill(0);
-    }
     let start = Instant::now();
     let result = run(buffers);
     (start.elapsed(), result)

@@ -1,6 +1,7 @@
 //! Chunks: up to 32 KiB of a file each.
 
 use super::cipher::Cipher;
+use super::header;
 use super::lengths::CHUNK_LEN;
 use super::sizes::{room, sized};
 use super::{Refusal, Vault};
@@ -58,6 +59,15 @@ impl Vault {
         self.check_nonce(header_nonce)?;
         Ok(ChunkCipher::new(cipher, header_nonce))
     }
+
+    /// By the header of a file (row 9).
+    pub(super) fn chunk_cipher_of<'a>(&self, header: &'a [u8]) -> Result<ChunkCipher<'a>, Refusal> {
+        let cipher = self.header_cipher();
+        let payload = header::open(&cipher, header)?;
+        let header_nonce = &header[..self.combo.nonce_len()];
+        let cipher = cipher.with_key(&payload.content_key);
+        Ok(ChunkCipher::new(cipher, header_nonce))
+    }
 }
 
 /// What all chunks of a file have in common.
@@ -79,6 +89,13 @@ impl<'a> ChunkCipher<'a> {
     pub fn seal(&self, number: u64, nonce: &[u8], cleartext: &[u8], out: &mut [u8]) {
         let ad = &mut [0; MAX_AD_LEN];
         self.cipher.seal(nonce, self.ad(number, ad), cleartext, out);
+    }
+
+    /// Replaces the cleartext of a chunk from a place on, and seals it all anew.
+    pub fn reseal(&self, number: u64, nonce: &[u8], from: usize, new: &[u8], chunk: &mut [u8]) {
+        let ad = &mut [0; MAX_AD_LEN];
+        let ad = self.ad(number, ad);
+        self.cipher.reseal(nonce, ad, from, new, chunk);
     }
 
     /// Row 10.

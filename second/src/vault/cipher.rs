@@ -3,8 +3,8 @@
 
 use super::{Combo, Vault};
 use crate::aes::KEY_LEN;
-use crate::ctr_hmac::CtrHmac;
-use crate::gcm::Aes256Gcm;
+use crate::ctr_hmac::{self, CtrHmac};
+use crate::gcm::{self, Aes256Gcm};
 
 /// A key made ready for many headers or chunks.
 pub enum Cipher {
@@ -35,10 +35,21 @@ impl Cipher {
         let (data, tag) = rest.split_at_mut(cleartext.len());
         start.copy_from_slice(nonce);
         data.copy_from_slice(cleartext);
-        match self {
-            Cipher::Gcm(cipher) => tag.copy_from_slice(&cipher.encrypt(array(nonce), ad, data)),
-            Cipher::CtrHmac(cipher) => tag.copy_from_slice(&cipher.encrypt(array(nonce), ad, data)),
-        }
+        self.encrypt(nonce, ad, data, tag);
+    }
+
+    /// Replaces the cleartext from a place on, and seals it all anew with this
+    /// nonce. Does not look at the tag.
+    pub fn reseal(&self, nonce: &[u8], ad: &[u8], from: usize, new: &[u8], stored: &mut [u8]) {
+        let (start, rest) = stored.split_at_mut(nonce.len());
+        let (data, tag) = rest.split_at_mut(rest.len() - self.tag_len());
+        let (before, rest) = data.split_at_mut(from);
+        let (replaced, after) = rest.split_at_mut(new.len());
+        self.apply_keystream(start, 0, before);
+        self.apply_keystream(start, from + new.len(), after);
+        replaced.copy_from_slice(new);
+        start.copy_from_slice(nonce);
+        self.encrypt(nonce, ad, data, tag);
     }
 
     /// Whether the tag is right.
@@ -58,15 +69,39 @@ impl Cipher {
 
     /// Fills `out` with the cleartext from a place on.
     pub fn decrypt_part(&self, stored: &[u8], from: usize, out: &mut [u8]) {
+        let (nonce, sealed) = stored.split_at(self.nonce_len());
+        out.copy_from_slice(&sealed[from..from + out.len()]);
+        self.apply_keystream(nonce, from, out);
+    }
+
+    /// Encrypts in place and writes the tag.
+    fn encrypt(&self, nonce: &[u8], ad: &[u8], data: &mut [u8], tag: &mut [u8]) {
         match self {
-            Cipher::Gcm(cipher) => {
-                let nonce = copy_part(stored, from, out);
-                cipher.apply_keystream(nonce, from, out);
-            }
-            Cipher::CtrHmac(cipher) => {
-                let nonce = copy_part(stored, from, out);
-                cipher.apply_keystream(nonce, from, out);
-            }
+            Cipher::Gcm(cipher) => tag.copy_from_slice(&cipher.encrypt(array(nonce), ad, data)),
+            Cipher::CtrHmac(cipher) => tag.copy_from_slice(&cipher.encrypt(array(nonce), ad, data)),
+        }
+    }
+
+    /// Counter mode on what follows the first `offset` bytes. Encrypts and
+    /// decrypts.
+    fn apply_keystream(&self, nonce: &[u8], offset: usize, data: &mut [u8]) {
+        match self {
+            Cipher::Gcm(cipher) => cipher.apply_keystream(array(nonce), offset, data),
+            Cipher::CtrHmac(cipher) => cipher.apply_keystream(array(nonce), offset, data),
+        }
+    }
+
+    fn nonce_len(&self) -> usize {
+        match self {
+            Cipher::Gcm(_) => gcm::NONCE_LEN,
+            Cipher::CtrHmac(_) => ctr_hmac::NONCE_LEN,
+        }
+    }
+
+    fn tag_len(&self) -> usize {
+        match self {
+            Cipher::Gcm(_) => gcm::TAG_LEN,
+            Cipher::CtrHmac(_) => ctr_hmac::TAG_LEN,
         }
     }
 }
@@ -82,11 +117,4 @@ fn parts<const N: usize, const T: usize>(stored: &[u8]) -> (&[u8; N], &[u8], &[u
     let (nonce, sealed) = stored.split_first_chunk().expect("a nonce");
     let (ciphertext, tag) = sealed.split_last_chunk().expect("a tag");
     (nonce, ciphertext, tag)
-}
-
-/// Fills `out` with the ciphertext from a place on, and gives the nonce.
-fn copy_part<'a, const N: usize>(stored: &'a [u8], from: usize, out: &mut [u8]) -> &'a [u8; N] {
-    let (nonce, sealed) = stored.split_first_chunk().expect("a nonce");
-    out.copy_from_slice(&sealed[from..from + out.len()]);
-    nonce
 }

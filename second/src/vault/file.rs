@@ -1,11 +1,11 @@
 //! Whole files, and ranges of them.
 
 use super::chunk::ChunkCipher;
-use super::header;
 use super::lengths::CHUNK_LEN;
+use super::nonces::all_differ;
 use super::sizes::{room, sized};
-use super::{Combo, Refusal, Vault};
-use std::ops::Range;
+use super::{header, range};
+use super::{Refusal, Vault};
 
 impl Vault {
     /// The chunk nonces are one after the other.
@@ -53,21 +53,17 @@ impl Vault {
         out: &mut [u8],
     ) -> Result<usize, Refusal> {
         let length = self.cleartext_length(file.len() as u64)?;
-        let end = from.checked_add(count).ok_or(Refusal::Range)?;
-        Refusal::Range.unless(end <= length)?;
-        let range = from as usize..end as usize;
+        let range = range::inside(from, count, length)?;
         room(out, range.len())?;
 
         let (header, chunks) = file.split_at(self.combo.header_len());
-        let cipher = self.header_cipher();
-        let payload = header::open(&cipher, header)?;
-        let header_nonce = &header[..self.combo.nonce_len()];
-        let cipher = ChunkCipher::new(cipher.with_key(&payload.content_key), header_nonce);
-        for (number, chunk, _) in covering(self.combo, chunks, range.clone()) {
+        let cipher = self.chunk_cipher_of(header)?;
+        let chunks = chunks.chunks(self.combo.stored_chunk_len());
+        for (number, chunk, _) in range::covering(self.combo, chunks.clone(), range.clone()) {
             cipher.verify(number, chunk)?;
         }
         let mut rest = &mut out[..range.len()];
-        for (_, chunk, part) in covering(self.combo, chunks, range.clone()) {
+        for (_, chunk, part) in range::covering(self.combo, chunks, range.clone()) {
             let (place, later) = rest.split_at_mut(part.len());
             cipher.decrypt_part(chunk, part.start, place);
             rest = later;
@@ -76,33 +72,11 @@ impl Vault {
     }
 }
 
-fn all_differ<'a>(nonces: impl Iterator<Item = &'a [u8]>) -> bool {
-    let mut sorted: Vec<_> = nonces.collect();
-    sorted.sort_unstable();
-    sorted.windows(2).all(|pair| pair[0] != pair[1])
-}
-
-/// The chunks that have a part of the range, each with its number and with
-/// that part, counted from the chunk's own start.
-fn covering(
-    combo: Combo,
-    chunks: &[u8],
-    range: Range<usize>,
-) -> impl Iterator<Item = (u64, &[u8], Range<usize>)> {
-    let numbered = chunks.chunks(combo.stored_chunk_len()).enumerate();
-    numbered.filter_map(move |(number, chunk)| {
-        let start = number * CHUNK_LEN;
-        let len = chunk.len() - combo.overhead();
-        let from = range.start.saturating_sub(start);
-        let end = range.end.saturating_sub(start).min(len);
-        (from < end).then_some((number as u64, chunk, from..end))
-    })
-}
-
 #[cfg(test)]
 mod tests {
     use super::super::cipher::Cipher;
     use super::super::samples::{cleartext, file, header_nonce, vault, CONTENT_KEY};
+    use super::super::Combo;
     use super::*;
 
     #[test]

@@ -21,7 +21,8 @@ pub enum Refusal {
     Range,
     /// A buffer has not the room for what goes into it.
     Room,
-    /// Two chunks to write have the same nonce.
+    /// Two chunks to write have the same nonce, or one of a file to mend has a
+    /// nonce that is there already.
     RepeatedNonce,
     /// The header's tag is wrong.
     Header,

@@ -42,6 +42,8 @@ macro_rules! functions {
             ($($declared)* _: *mut u64,) ($($taken)* $x: &mut u64,) ($($passed)* $x,) $($rest)*);
     };
     (@ $symbol:ident $name:ident ($($declared:tt)*) ($($taken:tt)*) ($($passed:tt)*)) => {
+        // Not every test calls every function.
+        #[allow(dead_code)]
         pub fn $name($($taken)*) -> u32 {
             extern "C" {
                 fn $symbol($($declared)*) -> u32;
@@ -66,6 +68,8 @@ functions! {
     primitives_siv_open as siv_open(
         mac_key: input, enc_key: input, ad_given: flag, ad: input, sealed: input, out: buffer);
     primitives_ctr128 as ctr128(key: input, first_counter: input, text: input, out: buffer);
+    primitives_ctr_in_place as ctr_in_place(
+        key: input, first_counter: input, wide: flag, text: buffer);
     primitives_sha1 as sha1(message: input, out: buffer);
     primitives_sha256 as sha256(message: input, out: buffer);
     primitives_hmac_sha256 as hmac_sha256(key: input, message: input, out: buffer);

@@ -1,8 +1,9 @@
-//! AES-256 in counter mode, with a counter of 128 bits.
+//! AES-256 in counter mode: with a counter of 128 bits from slice to slice,
+//! and with one of 32 or of 128 bits in place.
 
-use crate::common::primitives::{self, DONE};
+use crate::common::primitives::{self, DONE, REFUSED};
 use crate::common::{check, random::Random};
-use crate::FILLINGS;
+use crate::{FILLINGS, NO, YES};
 use second::aes::{BLOCK_LEN, KEY_LEN};
 
 /// Compares with a random key and an `out` that is long enough.
@@ -155,6 +156,106 @@ fn all_out_sizes() {
             let [key, counter] = [KEY_LEN, BLOCK_LEN].map(|len| random.bytes(len));
             let [text, out] = [len, out_len].map(|len| random.bytes(len));
             assert_eq!(check::ctr128(&key, &counter, &text, &out), out_len >= len);
+        }
+    }
+}
+
+/// Bytes around a text that no call may change. The number is odd, so that
+/// the text is at an odd address.
+const GUARD: [u8; 17] = *b"outside of a text";
+
+/// The call in place on a text between guards: its status, and the text after.
+fn call_in_place(key: &[u8], counter: &[u8], wide: u32, text: &[u8]) -> (u32, Vec<u8>) {
+    let mut all = [&GUARD, text, &GUARD].concat();
+    let range = GUARD.len()..GUARD.len() + text.len();
+    let status = primitives::ctr_in_place(key, counter, wide, &mut all[range.clone()]);
+    let after = all[range].to_vec();
+    assert_eq!(all, [&GUARD, after.as_slice(), &GUARD].concat());
+    (status, after)
+}
+
+/// The counter of block i: the whole of it counts, or its last 32 bits.
+fn counter_of(first: u128, wide: u32, i: usize) -> u128 {
+    let next = first.wrapping_add(i as u128);
+    let low = u128::from(u32::MAX);
+    if wide == NO {
+        first & !low | next & low
+    } else {
+        next
+    }
+}
+
+/// Compares with calls from slice to slice, one for each block.
+fn compare_in_place(random: &mut Random, first: u128, wide: u32, len: usize) {
+    let key = random.array::<KEY_LEN>();
+    let text = random.bytes(len);
+    let mut expected = vec![0xa5; len];
+    let blocks = text.chunks(BLOCK_LEN).zip(expected.chunks_mut(BLOCK_LEN));
+    for (i, (text, out)) in blocks.enumerate() {
+        let counter = counter_of(first, wide, i).to_be_bytes();
+        assert_eq!(primitives::ctr128(&key, &counter, text, out), DONE);
+    }
+    let first = first.to_be_bytes();
+    assert_eq!(call_in_place(&key, &first, wide, &text), (DONE, expected));
+}
+
+#[test]
+fn in_place_all_short_lengths() {
+    let mut random = Random::new(129);
+    for len in 0..=300 {
+        for wide in YES.into_iter().chain([NO]) {
+            for _ in 0..5 {
+                let first = random_counter(&mut random);
+                compare_in_place(&mut random, first, wide, len);
+            }
+        }
+    }
+}
+
+#[test]
+fn in_place_long() {
+    let mut random = Random::new(130);
+    for len in [4095, 4096, 4097, 32_768, 65_536, 100_000] {
+        for wide in [NO, YES[0]] {
+            let first = random_counter(&mut random);
+            compare_in_place(&mut random, first, wide, len);
+        }
+    }
+}
+
+/// As in `carries`. A counter of 32 bits leaves the bytes before them alone.
+#[test]
+fn in_place_carries() {
+    const BLOCKS: usize = 12;
+    let mut random = Random::new(131);
+    for bytes in 1..=BLOCK_LEN {
+        let ones = u128::MAX >> (128 - 8 * bytes);
+        for before in 0..=BLOCKS {
+            for wide in [NO, YES[0]] {
+                for _ in 0..10 {
+                    let first = (random_counter(&mut random) | ones) - before as u128;
+                    for len in [BLOCKS * BLOCK_LEN, random.below(BLOCKS * BLOCK_LEN)] {
+                        compare_in_place(&mut random, first, wide, len);
+                    }
+                }
+            }
+        }
+    }
+}
+
+/// A call with a key or a counter of another size leaves the text alone.
+#[test]
+fn in_place_all_key_and_counter_sizes() {
+    let mut random = Random::new(132);
+    for key_len in 0..=40 {
+        for counter_len in 0..=20 {
+            for (wide, len) in [(NO, 0), (YES[0], 0), (NO, 33), (YES[0], 33)] {
+                let [key, counter, text] = [key_len, counter_len, len].map(|len| random.bytes(len));
+                let (status, after) = call_in_place(&key, &counter, wide, &text);
+                let right = key_len == KEY_LEN && counter_len == BLOCK_LEN;
+                assert_eq!(status, if right { DONE } else { REFUSED });
+                assert!(right || after == text);
+            }
         }
     }
 }

@@ -1,4 +1,4 @@
-//! `second` writes SIV_CTRMAC as its document has it.
+//! `second` writes and mends SIV_CTRMAC as its document has it.
 
 #[path = "../common"]
 mod common {
@@ -37,6 +37,25 @@ fn lengths() {
 #[test]
 fn longest() {
     Inputs::new(&mut Random::new(2), 16_777_216).check();
+}
+
+/// Ranges of some bytes, within a chunk and over borders.
+#[test]
+fn mends() {
+    let random = &mut Random::new(6);
+    for (len, range) in [
+        (1, 0..1),
+        (40, 0..40),
+        (40, 17..33),
+        (32_769, 32_768..32_769),
+        (70_000, 0..1),
+        (70_000, 32_767..32_769),
+        (70_000, 40_000..69_999),
+        (100_000, 32_760..65_540),
+        (100_000, 0..100_000),
+    ] {
+        Inputs::new(random, len).check_mend(random, range);
+    }
 }
 
 /// At every block of a header.

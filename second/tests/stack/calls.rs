@@ -130,7 +130,19 @@ fn file_depths(vault: &Vault, combo: Combo) -> Vec<Depth> {
         ("write_file", write),
         ("open_file", open),
         ("read_range", read),
+        ("mend", mend_depth(vault, combo, &mut file)),
     ]
+}
+
+/// Of a range over two chunks.
+fn mend_depth(vault: &Vault, combo: Combo, file: &mut [u8]) -> usize {
+    let new = vec![8; 40_000];
+    let mut nonces: Vec<_> = (0x80..).take(2 * combo.nonce_len()).collect();
+    done(new.len(), || {
+        // They are fresh each time.
+        nonces.rotate_left(1);
+        vault.mend(file, 17, &new, &nonces)
+    })
 }
 
 fn name_depths(vault: &Vault) -> Vec<Depth> {

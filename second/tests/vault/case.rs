@@ -2,6 +2,7 @@
 
 use crate::fault::Fault::{self, *};
 use crate::format::{self, THRESHOLD_PLACE};
+use crate::make;
 use second::vault::Combo;
 
 #[derive(Clone, Copy, Debug, PartialEq, Eq)]
@@ -15,6 +16,7 @@ pub enum Call {
     WriteFile,
     OpenFile,
     ReadRange,
+    Mend,
     WriteName,
     OpenName,
     OpenLongName,
@@ -26,7 +28,7 @@ pub enum Call {
 }
 
 impl Call {
-    pub const ALL: [Call; 17] = [
+    pub const ALL: [Call; 18] = [
         Call::OpenLabel,
         Call::MakeVault,
         Call::WriteHeader,
@@ -36,6 +38,7 @@ impl Call {
         Call::WriteFile,
         Call::OpenFile,
         Call::ReadRange,
+        Call::Mend,
         Call::WriteName,
         Call::OpenName,
         Call::OpenLongName,
@@ -79,6 +82,7 @@ impl Call {
             Call::WriteFile => OF_WRITTEN_FILE,
             Call::OpenFile => &[VaultSize, Combo, Length, Room, Header, Chunk],
             Call::ReadRange => &[VaultSize, Combo, Length, Range, Room, Header, Chunk],
+            Call::Mend => OF_MEND,
             Call::WriteName => &[VaultSize, Threshold, Combo, DirectoryId, Name, Room],
             Call::OpenName => OF_OPENED_NAME,
             Call::OpenLongName => OF_OPENED_LONG_NAME,
@@ -109,6 +113,17 @@ const OF_WRITTEN_FILE: &[Fault] = &[
     RepeatedNonce,
 ];
 
+const OF_MEND: &[Fault] = &[
+    VaultSize,
+    Combo,
+    KeyOrNonceSize,
+    Length,
+    Range,
+    RepeatedNonce,
+    Header,
+    Chunk,
+];
+
 const OF_OPENED_NAME: &[Fault] = &[
     VaultSize,
     Threshold,
@@ -132,7 +147,8 @@ const OF_OPENED_LONG_NAME: &[Fault] = &[
     Name,
 ];
 
-/// Inputs, numbers and buffers are each in the order of the C boundary.
+/// Inputs, numbers and buffers are each in the order of the C boundary. The file
+/// that a mend changes is a buffer.
 #[derive(Clone, Debug)]
 pub struct Case {
     pub call: Call,
@@ -148,6 +164,30 @@ impl Case {
             Call::MakeVault => Combo::of_number(self.vault_numbers()[0]).ok(),
             Call::OpenLabel | Call::WrapKey | Call::UnwrapKey => None,
             _ => format::combo_of(&self.inputs[0]),
+        }
+    }
+
+    /// The header or file that is opened, read or mended.
+    pub fn file(&self) -> &[u8] {
+        match self.call {
+            Call::Mend => &self.buffers[0],
+            _ => &self.inputs[1],
+        }
+    }
+
+    pub fn file_mut(&mut self) -> &mut Vec<u8> {
+        match self.call {
+            Call::Mend => &mut self.buffers[0],
+            _ => &mut self.inputs[1],
+        }
+    }
+
+    /// The start and the length of the range that is opened, read or mended.
+    pub fn range(&self) -> (u64, u64) {
+        match (self.call, &self.numbers[..]) {
+            (Call::ReadRange, &[from, count]) => (from, count),
+            (Call::Mend, &[from]) => (from, self.inputs[1].len() as u64),
+            _ => (0, make::cleartext_len(self) as u64),
         }
     }
 

@@ -11,6 +11,7 @@ use second::vault::Combo;
 pub const PARTS: &[Part] = &[
     ("exchange: vaults and files", Each(vaults_and_files)),
     ("exchange: headers and chunks", Each(headers_and_chunks)),
+    ("exchange: mends", Each(mends)),
     ("exchange: names", Each(names)),
     ("exchange: keys", Once(keys)),
 ];
@@ -71,6 +72,33 @@ fn vaults_and_files(compare: &mut Compare, combo: Combo) {
             let file = written(compare, writer, &write).swap_remove(0);
             let inputs = vec![vault, file];
             opens(compare, reader, Call::OpenFile, inputs, &write.inputs[4]);
+        }
+    }
+}
+
+/// The reader of what is mended wrote the file.
+fn mends(compare: &mut Compare, combo: Combo) {
+    for (len, from, count) in [
+        (1, 0, 1),
+        (100, 30, 50),
+        (32_768, 32_767, 1),
+        (70_000, 32_700, 200),
+        (70_000, 40_000, 0),
+        (70_000, 0, 70_000),
+    ] {
+        for (writer, reader) in WAYS {
+            let write = make::write_file(&mut compare.random, combo, len);
+            let file = written(compare, reader, &write).swap_remove(0);
+            let vault = write.inputs[0].clone();
+            let mend = make::mend_file(&mut compare.random, &vault, &file, from as u64, count);
+            let mut end = writer(&mend);
+            assert_eq!((end.row, end.length), (0, count as u64));
+            compare.tally.count(&mend, &end);
+
+            let mut cleartext = write.inputs[4].clone();
+            cleartext[from..from + count].copy_from_slice(&mend.inputs[1]);
+            let inputs = vec![vault, end.buffers.swap_remove(0)];
+            opens(compare, reader, Call::OpenFile, inputs, &cleartext);
         }
     }
 }

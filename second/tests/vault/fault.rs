@@ -3,6 +3,7 @@
 mod content;
 mod keys;
 mod labels;
+mod mends;
 mod mutations;
 mod names;
 mod room;

@@ -122,6 +122,10 @@ fn content(case: &Case, lent: Lent) -> u32 {
                 call!(skrapnefja_read_range:
                     in vault, in file, val from, val count, out out, val length, val at,)
             }
+            (Call::Mend, [vault, new, nonces], &[from], [file]) => {
+                call!(skrapnefja_mend:
+                    in vault, out file, val from, in new, in nonces, val length, val at,)
+            }
             _ => panic!("not what {:?} takes", case.call),
         }
     }

@@ -36,6 +36,7 @@ mod lengths;
 mod library;
 mod longest;
 mod make;
+mod mends;
 mod names;
 mod order;
 mod other_combo;
@@ -99,6 +100,7 @@ fn main() -> ExitCode {
     let wanted = |name: &str| filters.is_empty() || filters.iter().any(|part| name.contains(part));
     let parts = [
         PARTS.concat(),
+        mends::PARTS.concat(),
         places::PARTS.concat(),
         labels::PARTS.concat(),
     ]

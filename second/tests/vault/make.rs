@@ -4,6 +4,7 @@ mod content;
 mod json;
 mod keys;
 mod labels;
+mod mends;
 mod names;
 mod nonces;
 mod sizes;
@@ -18,6 +19,7 @@ pub use content::*;
 pub use json::*;
 pub use keys::*;
 pub use labels::*;
+pub use mends::*;
 pub use names::*;
 pub use nonces::*;
 use sizes::{chunk_len, file_len, name_len, range};
@@ -49,6 +51,11 @@ pub fn case(call: Call, random: &mut Random, combo: Combo) -> Case {
             let len = file_len(random);
             let (from, count) = range(random, len);
             read_range(random, combo, len, from, count)
+        }
+        Call::Mend => {
+            let len = file_len(random);
+            let (from, count) = range(random, len);
+            mend(random, combo, len, from, count as usize)
         }
         Call::WriteName | Call::OpenName | Call::OpenLongName => on_name(call, random, combo),
         Call::DirPath => dir_path(random, combo),
@@ -101,7 +108,7 @@ pub fn with_length(call: Call, vault: &[u8], length: u64) -> Case {
 }
 
 /// What the call writes to its first buffer, by `second`.
-fn answer(case: &Case) -> Vec<u8> {
+pub fn answer(case: &Case) -> Vec<u8> {
     let mut end = crate::predict::end(case);
     assert_eq!(end.row, 0);
     end.buffers[0].truncate(end.length as usize);

@@ -10,6 +10,7 @@ use second::vault::{Combo, CHUNK_LEN};
 
 pub const PARTS: &[Part] = &[
     ("opened as the other combo: files and ranges", Each(files)),
+    ("mended as the other combo: nonces", Each(nonces)),
     ("opened as the other combo: headers", Each(headers)),
     ("opened as the other combo: chunks", Each(chunks)),
     (
@@ -48,9 +49,30 @@ fn files(compare: &mut Compare, combo: Combo) {
         open.call = Call::ReadRange;
         open.numbers = vec![0, 0];
         assert_eq!(compare.row(&open), row);
+        let mend = make::mend_file(&mut compare.random, &open.inputs[0], &open.inputs[1], 0, 0);
+        assert_eq!(compare.row(&mend), row);
         rows[usize::from(row == 9)] += 1;
     }
     assert!(rows.iter().all(|&count| count > 3), "{rows:?}");
+}
+
+/// Row 1. Four of 12 bytes are as long as three of 16: for as many chunks as that
+/// row 9.
+fn nonces(compare: &mut Compare, combo: Combo) {
+    let len = 4 * CHUNK_LEN;
+    for chunks in 1..=4 {
+        let mend = make::mend(&mut compare.random, combo, len, 0, chunks * CHUNK_LEN);
+        assert_eq!(compare.row(&mend), 0);
+        assert_eq!(compare.row(&as_other(&mend, combo)), 1);
+    }
+    let (own, others) = match combo {
+        Combo::SivGcm => (4, 3),
+        Combo::SivCtrmac => (3, 4),
+    };
+    let mend = make::mend(&mut compare.random, combo, len, 0, own * CHUNK_LEN);
+    let mut mend = as_other(&mend, combo);
+    mend.inputs[1].resize(others * CHUNK_LEN, 0);
+    assert_eq!(compare.row(&mend), 9);
 }
 
 /// Row 4, and in the other's length row 9.

@@ -103,11 +103,12 @@ fn calls_in(random: &mut Random, combo: Combo, id: &[u8]) -> [Case; 5] {
     [path, plain, long, open_plain, open_long]
 }
 
-/// Row 4, whatever keys of 32 bytes: a file is cut or made longer, and is opened and
-/// read with its own keys and with others.
+/// Row 4, whatever keys of 32 bytes: a file is cut or made longer, and is opened,
+/// read and mended with its own keys and with others.
 fn refused_file_lengths(compare: &mut Compare, combo: Combo) {
     let open = make::open_file(&mut compare.random, combo, 40_000);
     let read = make::read_range(&mut compare.random, combo, 40_000, 0, 1);
+    let mend = make::mend(&mut compare.random, combo, 40_000, 0, 1);
     let lengths = match combo {
         Combo::SivGcm => [67, 69, 96, 32_865, 32_892, 16_791_621, 16_791_649],
         Combo::SivCtrmac => [87, 89, 136, 32_905, 32_952, 16_801_881, 16_801_929],
@@ -115,9 +116,9 @@ fn refused_file_lengths(compare: &mut Compare, combo: Combo) {
     for length in lengths {
         let case = with_length(Call::CleartextLength, &open.inputs[0], length as u64);
         assert_eq!(compare.row(&case), 4);
-        for case in [&open, &read] {
+        for case in [&open, &read, &mend] {
             let mut case = case.clone();
-            case.inputs[1].resize(length, 0);
+            case.file_mut().resize(length, 0);
             assert_eq!(compare.row(&case), 4);
             case.inputs[0] = make::vault(&mut compare.random, combo);
             assert_eq!(compare.row(&case), 4);
@@ -179,17 +180,26 @@ fn range_is_refused(compare: &mut Compare, combo: Combo, from: u64, count: u64) 
         let mut case = make::read_range(&mut compare.random, combo, len, 0, 0);
         case.numbers = vec![from, count];
         assert_eq!(compare.row(&case), 6);
+        // No more bytes can be lent than there is memory for.
+        if count == 1 {
+            let vault = &case.inputs[0];
+            let mend = make::mend_file(&mut compare.random, vault, &case.inputs[1], from, 1);
+            assert_eq!(compare.row(&mend), 6);
+        }
     }
 }
 
 /// Success, length 0, and the header is checked.
 fn empty_range_at_end(compare: &mut Compare, combo: Combo) {
     for len in CLEARTEXTS {
-        let mut case = make::read_range(&mut compare.random, combo, len, len as u64, 0);
-        let End { row, length, .. } = compare.end(&case);
-        assert_eq!((row, length), (0, 0));
-        case.inputs[1][sizes(combo).header - 1] ^= 1;
-        assert_eq!(compare.row(&case), 9);
+        let read = make::read_range(&mut compare.random, combo, len, len as u64, 0);
+        let mend = make::mend(&mut compare.random, combo, len, len as u64, 0);
+        for mut case in [read, mend] {
+            let End { row, length, .. } = compare.end(&case);
+            assert_eq!((row, length), (0, 0));
+            case.file_mut()[sizes(combo).header - 1] ^= 1;
+            assert_eq!(compare.row(&case), 9);
+        }
     }
 }
 
@@ -199,13 +209,22 @@ fn key_before_length(compare: &mut Compare, combo: Combo) {
     let mut cases = [
         make::open_file(random, combo, 10),
         make::read_range(random, combo, 10, 0, 1),
+        make::mend(random, combo, 10, 0, 1),
         make::open_chunk(random, combo, 10),
         make::write_chunk(random, combo, 10),
     ];
     for case in &mut cases {
-        case.inputs.last_mut().expect("a file or chunk").clear();
+        let keys = match case.call {
+            Call::OpenChunk | Call::WriteChunk => {
+                case.inputs.last_mut().expect("a chunk").clear();
+                2
+            }
+            _ => {
+                case.file_mut().clear();
+                1
+            }
+        };
         assert_eq!(compare.row(case), 4);
-        let keys = if case.inputs.len() > 2 { 2 } else { 1 };
         for key in 0..keys {
             let (mut shorter, mut longer) = (case.clone(), case.clone());
             shorter.inputs[key].pop();

@@ -97,6 +97,7 @@ fn content(
         (Call::ReadRange, [file], &[from, count], [out]) => {
             vault.read_range(file, from, count, out)
         }
+        (Call::Mend, [new, nonces], &[from], [file]) => vault.mend(file, from, new, nonces),
         _ => panic!("not what {call:?} takes"),
     };
     Ok((length? as u64, None))

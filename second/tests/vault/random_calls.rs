@@ -117,20 +117,14 @@ fn random_case(call: Call, combo: Combo, random: &mut Random) -> Case {
 
 fn change(case: &mut Case, random: &mut Random) {
     let Case {
+        call,
         inputs,
         numbers,
         buffers,
-        ..
     } = case;
     let place = random.below(inputs.len() + numbers.len() + buffers.len());
     if let Some(input) = inputs.get_mut(place) {
-        let len = input.len();
-        match random.below(4) {
-            0 => resize(input, len + 1 + random.below(40), random),
-            1 => input.truncate(len - random.below(len.min(40) + 1)),
-            _ if len > 0 => flip(input, random),
-            _ => {}
-        }
+        change_bytes(input, random);
     } else if let Some(number) = numbers.get_mut(place - inputs.len()) {
         *number = match random.below(4) {
             0 => random.word() >> random.below(64),
@@ -140,7 +134,23 @@ fn change(case: &mut Case, random: &mut Random) {
         };
     } else {
         let buffer = &mut buffers[place - inputs.len() - numbers.len()];
-        let len = random.below(buffer.len() + 40);
-        resize(buffer, len, random);
+        match call {
+            Call::Mend => change_bytes(buffer, random),
+            _ => {
+                let len = random.below(buffer.len() + 40);
+                resize(buffer, len, random);
+            }
+        }
+    }
+}
+
+/// Changes the length or a bit.
+fn change_bytes(bytes: &mut Vec<u8>, random: &mut Random) {
+    let len = bytes.len();
+    match random.below(4) {
+        0 => resize(bytes, len + 1 + random.below(40), random),
+        1 => bytes.truncate(len - random.below(len.min(40) + 1)),
+        _ if len > 0 => flip(bytes, random),
+        _ => {}
     }
 }

@@ -75,6 +75,7 @@ fn each_call(compare: &mut Compare, combo: Combo) -> Vec<Case> {
             Call::WriteFile => make::write_file(random, combo, 100),
             Call::OpenFile => make::open_file(random, combo, 100),
             Call::ReadRange => make::read_range(random, combo, 100, 7, 80),
+            Call::Mend => make::mend(random, combo, 100, 7, 80),
             Call::WriteName => make::write_name(random, combo, 100),
             Call::OpenName => make::open_name(random, combo, 100),
             Call::DirPath => {
@@ -141,7 +142,7 @@ fn bits(compare: &mut Compare, combo: Combo) {
                 _ if !goes_by_it => 0,
                 Call::OpenName | Call::OpenLongName => 12,
                 Call::OpenChunk => 10,
-                Call::OpenHeader | Call::OpenFile | Call::ReadRange
+                Call::OpenHeader | Call::OpenFile | Call::ReadRange | Call::Mend
                     if bit >= 256 || combo == Combo::SivGcm =>
                 {
                     9

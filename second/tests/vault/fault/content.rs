@@ -1,6 +1,6 @@
 //! Faults of lengths, and of headers, chunks, files and ranges.
 
-use super::{flip, resize};
+use super::{flip, mends, resize};
 use crate::case::{Call, Case};
 use crate::common::random::Random;
 use crate::format::{sizes, Sizes, LONGEST_CLEARTEXT, WRAPPED_KEY};
@@ -27,7 +27,9 @@ pub fn length(case: &mut Case, random: &mut Random) {
             case.inputs[4] = vec![7; LONGEST_CLEARTEXT + 1 + random.below(100)];
             resize(&mut case.inputs[3], 513 * sizes.nonce, random);
         }
-        Call::OpenFile | Call::ReadRange => file_length(&mut case.inputs[1], &sizes, random),
+        Call::OpenFile | Call::ReadRange | Call::Mend => {
+            file_length(case.file_mut(), &sizes, random);
+        }
         Call::FileLength => case.numbers[0] = large(random, LONGEST_CLEARTEXT + 1),
         Call::CleartextLength => {
             let whole = sizes.header + random.below(512) * sizes.chunk;
@@ -57,7 +59,7 @@ fn file_length(file: &mut Vec<u8>, sizes: &Sizes, random: &mut Random) {
     let chunks = file.len().saturating_sub(sizes.header) / sizes.chunk;
     let whole = sizes.header + chunks * sizes.chunk;
     let len = match random.below(40) {
-        0 => sizes.longest_file + 1 + random.below(100),
+        0 => return file.resize(sizes.longest_file + 1 + random.below(100), 7),
         1..20 => whole + 1 + random.below(sizes.overhead),
         _ => random.below(sizes.header),
     };
@@ -75,6 +77,9 @@ fn large(random: &mut Random, least: usize) -> u64 {
 }
 
 pub fn range(case: &mut Case, random: &mut Random) {
+    if case.call == Call::Mend {
+        return mends::range(case, random);
+    }
     let end = make::cleartext_len(case) as u64;
     let more = 1 + random.below(3) as u64;
     let near = random.below(end as usize + 1) as u64;
@@ -92,13 +97,21 @@ pub fn range(case: &mut Case, random: &mut Random) {
 
 pub fn repeated_nonce(case: &mut Case, random: &mut Random) -> bool {
     let len = own_sizes(case).nonce;
-    let nonces = case.inputs[3].len() / len;
-    if nonces < 2 {
+    match case.call {
+        Call::Mend => mends::repeated_nonce(case, random),
+        _ => repeat(&mut case.inputs[3], len, random),
+    }
+}
+
+/// Makes one nonce of this length equal to another of them, if there are two.
+pub fn repeat(nonces: &mut [u8], len: usize, random: &mut Random) -> bool {
+    let number = nonces.len() / len;
+    if number < 2 {
         return false;
     }
-    let one = random.below(nonces);
-    let other = (one + 1 + random.below(nonces - 1)) % nonces;
-    case.inputs[3].copy_within(other * len..(other + 1) * len, one * len);
+    let one = random.below(number);
+    let other = (one + 1 + random.below(number - 1)) % number;
+    nonces.copy_within(other * len..(other + 1) * len, one * len);
     true
 }
 
@@ -106,7 +119,7 @@ pub fn repeated_nonce(case: &mut Case, random: &mut Random) -> bool {
 /// are stored, or of the tag.
 pub fn header(case: &mut Case, random: &mut Random) {
     let header = own_sizes(case).header;
-    flip(&mut case.inputs[1][..header], random);
+    flip(&mut case.file_mut()[..header], random);
 }
 
 /// Damages one covering chunk or more.
@@ -115,20 +128,14 @@ pub fn chunk(case: &mut Case, random: &mut Random) -> bool {
         single_chunk(case, random);
         return true;
     }
-    let sizes = own_sizes(case);
-    let chunks = case.inputs[1][sizes.header..].chunks_mut(sizes.chunk);
-    let mut covering: Vec<_> = match case.numbers[..] {
-        [_, 0] => vec![],
-        [from, count] => {
-            let first = from as usize / CHUNK_LEN;
-            let end = (from + count).div_ceil(CHUNK_LEN as u64) as usize;
-            chunks.take(end).skip(first).collect()
-        }
-        _ => chunks.collect(),
-    };
-    if covering.is_empty() {
+    let (sizes, (from, count)) = (own_sizes(case), case.range());
+    if count == 0 {
         return false;
     }
+    let first = from as usize / CHUNK_LEN;
+    let end = (from + count).div_ceil(CHUNK_LEN as u64) as usize;
+    let chunks = case.file_mut()[sizes.header..].chunks_mut(sizes.chunk);
+    let mut covering: Vec<_> = chunks.take(end).skip(first).collect();
     for _ in 0..1 + random.below(2).min(covering.len() - 1) {
         let one = random.below(covering.len());
         flip(covering.swap_remove(one), random);

@@ -6,13 +6,15 @@ use crate::common::random::Random;
 use crate::make;
 use second::key_wrap::INITIAL_VALUE;
 
-/// Of the inputs that are keys and nonces, and for a file of its chunk nonces.
+/// Of the inputs that are keys and nonces, and for a file of its chunk nonces or
+/// of those that mend it.
 pub fn key_or_nonce_size(case: &mut Case, random: &mut Random) {
     let inputs = match case.call {
         Call::MakeVault | Call::WrapKey => 0..2,
         Call::OpenLabel | Call::UnwrapKey => 0..1,
         Call::WriteHeader | Call::OpenChunk => 1..3,
         Call::WriteChunk | Call::WriteFile => 1..4,
+        Call::Mend => 2..3,
         call => panic!("{call:?} is lent no key and no nonce"),
     };
     let input = &mut case.inputs[inputs.start + random.below(inputs.len())];

@@ -42,7 +42,7 @@ fn needs(case: &Case) -> Vec<usize> {
         Call::OpenName => vec![name(&case.inputs[2])],
         Call::OpenLongName => vec![name(&case.inputs[3])],
         Call::DirPath => vec![36],
-        Call::OpenLabel | Call::FileLength | Call::CleartextLength => vec![],
+        Call::Mend | Call::OpenLabel | Call::FileLength | Call::CleartextLength => vec![],
         Call::WrapKey => vec![WRAPPED_KEY],
     }
 }

@@ -111,9 +111,9 @@ pub fn read_range(random: &mut Random, combo: Combo, len: usize, from: u64, coun
     with_room(Call::ReadRange, random, inputs, &numbers, count as usize)
 }
 
-/// The length of the cleartext of a file to open or to read.
+/// The length of the cleartext of a file to open, to read or to mend.
 pub fn cleartext_len(case: &Case) -> usize {
     let vault = Vault::from_bytes(&case.inputs[0]).expect("a vault");
-    let length = vault.cleartext_length(case.inputs[1].len() as u64);
+    let length = vault.cleartext_length(case.file().len() as u64);
     length.expect("a right length") as usize
 }

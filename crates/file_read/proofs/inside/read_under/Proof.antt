@@ -16,7 +16,7 @@ use Rattle.vault.specs.declared.record.Combo.{Combo}
 use Rattle.vault.specs.Vault.{sizesOf}
 use Rattle.vault.specs.Under.{goodUnder}
 use Rattle.vault.proofs.Combos.{nonce-within}
-use Rattle.file_read.specs.Under.{plainUnder, badUnder}
+use Rattle.file_parts.specs.Under.{plainUnder, badUnder}
 use Rattle.file_read.proofs.Under.{under-bad, under-good}
 use borrow.Author.Needs.{needs}
 use Rattle.file_read.proofs.inside.read_under.Statement.{statement}

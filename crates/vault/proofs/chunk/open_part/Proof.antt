@@ -1,15 +1,13 @@
 -- `open_part`: each arm is its combo's.
 -- Assumes nothing.
-use mathlib.Core.Path.{sym, _∙_, ap, subst}
+use mathlib.Core.Path.{sym, _∙_, ap}
 use native.Mathlib.Omega.{arith}
 use lib.ListN.{length, take, drop}
 use Rattle.aes_spec.specs.Cipher.{cipher}
-use Rattle.siv_gcm.specs.SivGcm as gcm
-use Rattle.siv_ctrmac.specs.SivCtrmac as ctrmac
 use Rattle.vault.specs.Vault.{sizesOf}
-use Rattle.vault.specs.Under.{openedUnder, Tagged}
+use Rattle.vault.specs.Under.{openedUnder}
 use Rattle.vault.specs.declared.record.Combo.{Combo}
-use Rattle.vault.specs.declared.record.Combo.the-variants.{SivGcm, SivCtrmac}
+use Rattle.vault.proofs.Combos.{tagged-gcm, tagged-ctrmac}
 use borrow.Author.Needs.{needs}
 use Rattle.vault.proofs.chunk.open_part.Statement.{statement}
 use Rattle.vault.proofs.chunk.open_part.Tie as tie
@@ -20,10 +18,8 @@ enum-told c = search needs
 open-part-requires : tie.Need-open-part-requires
 open-part-requires c κs =
     let i = c .before .before .before .before .before .before in
-    let x = i .args in
     let k = c .before .enum-told .given .1 in
-    let t : Tagged SivGcm (cipher 14 (x .w .now)) (x .chunk .now) = subst (λ (y : Combo). Tagged y (cipher 14 (x .w .now)) (x .chunk .now)) k (i .pre .0 .2) in
-    ((i .pre .0 .0, i .pre .0 .1, (gcm.chunkData (t .1) (t .2), t .3)), omega (arith, ap (λ (y : Combo). sizesOf y .overhead) k, i .pre .1))
+    ((i .pre .0 .0, i .pre .0 .1, tagged-gcm (cipher 14 (i .args .w .now)) (i .args .chunk .now) k (i .pre .0 .2)), omega (arith, ap (λ (y : Combo). sizesOf y .overhead) k, i .pre .1))
 
 enum-told-2 : tie.Need-enum-told-2
 enum-told-2 c = search needs
@@ -31,10 +27,8 @@ enum-told-2 c = search needs
 open-part-requires-2 : tie.Need-open-part-requires-2
 open-part-requires-2 c κs =
     let i = c .before .before .before .before .before .before in
-    let x = i .args in
     let k = c .before .enum-told2 .given .1 in
-    let t : Tagged SivCtrmac (cipher 14 (x .w .now)) (x .chunk .now) = subst (λ (y : Combo). Tagged y (cipher 14 (x .w .now)) (x .chunk .now)) k (i .pre .0 .2) in
-    ((i .pre .0 .0, i .pre .0 .1, (t .0, ctrmac.chunkData (t .1) (t .2), t .3)), omega (arith, ap (λ (y : Combo). sizesOf y .overhead) k, i .pre .1))
+    ((i .pre .0 .0, i .pre .0 .1, tagged-ctrmac (cipher 14 (i .args .w .now)) (i .args .chunk .now) k (i .pre .0 .2)), omega (arith, ap (λ (y : Combo). sizesOf y .overhead) k, i .pre .1))
 
 same-length : tie.Need-same-length
 same-length c = search needs

@@ -1,0 +1,16 @@
+-- The demands on the mend, for every record: they go by its combo.
+-- Assumes nothing.
+use Rattle.frame.specs.Rules.{KeySizes}
+use Rattle.mend_spec.specs.Statements.{PatchedBytes, PatchedParts, MendRowsExactly, MendRowsAscend, MendRowTen, MendRowOne, EmptyMend, MendsExactly}
+use Rattle.vault.specs.declared.record.Vault.{Vault}
+use Rattle.vault.specs.Vault.{codecOf, Keys}
+
+-- Each row is given exactly where it applies and no lower one does, and then leaves the file; row 10 returns the lowest number, and row 1 goes by range and nonces alone; an
+-- empty range changes nothing. Any keys. A mend that succeeds leaves what the writing rules give for the lent nonces and the old cleartext with the range replaced.
+abbrev pub MendDemand : Type 0
+MendDemand =
+    PatchedBytes × PatchedParts
+    × ((v : Vault) →
+    let C = codecOf v in
+    let Sized = KeySizes (v .enc) (v .mac) in
+    MendRowsExactly C Sized × MendRowsAscend C Sized × MendRowTen C Sized × MendRowOne C × EmptyMend C Sized × (Keys v → MendsExactly C))

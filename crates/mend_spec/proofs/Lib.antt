@@ -1,0 +1,10 @@
+pub mod Nonces
+pub mod Ends
+pub mod Patches
+pub mod Chunks
+pub mod After
+pub mod Files
+pub mod Choices
+pub mod Fresh
+pub mod Steps
+pub mod Turns

@@ -1,0 +1,3 @@
+pub mod Mend
+pub mod Rules
+pub mod Statements
