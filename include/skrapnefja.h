@@ -114,6 +114,13 @@ typedef struct skrapnefja_vault {
     uint8_t bytes[SKRAPNEFJA_VAULT_SIZE];
 } skrapnefja_vault;
 
+/*
+ * How many chunks `count` bytes of a cleartext cover, the first of them at place `from`: as many nonces does skrapnefja_mend take.
+ * `from` may be any number of 64 bits. It is not added to `count`, since that sum may wrap; `count` may be any size of a slice.
+ */
+#define SKRAPNEFJA_COVERING_CHUNKS(from, count) \
+    ((count) == 0 ? 0 : ((uint64_t)(from) % SKRAPNEFJA_CHUNK_SIZE + ((count) - 1)) / SKRAPNEFJA_CHUNK_SIZE + 1)
+
 /* A vault as one argument of a call: its bytes and their number. With a pointer to a vault: SKRAPNEFJA_VAULT(*pointer). */
 #define SKRAPNEFJA_VAULT(vault) (vault).bytes, sizeof (vault).bytes
 
@@ -201,9 +208,8 @@ uint32_t skrapnefja_read_range(const uint8_t *vault, size_t vault_len,
  * length stays. The chunks that the range covers are sealed again, each with its lent nonce, once the header and all of them are
  * found good. No other byte of the file changes, and a chunk that is not covered may be bad, and stays so. `from` may be any number.
  * A range of no bytes covers no chunk, looks at the header only, and changes nothing.
- * `nonces` has 12 or 16 bytes for each covered chunk, in order. These chunks are number from / 32,768 to number
- * (from + new_bytes_len - 1) / 32,768, rounded down, the sum taken without wrapping; row 1 counts them so, also where the range is
- * not inside. Row 8 is given if two of the nonces are equal, or if one is that of a chunk now in the file, covered or not, good or
+ * `nonces` has 12 or 16 bytes for each covered chunk, in order: for SKRAPNEFJA_COVERING_CHUNKS(from, new_bytes_len) of them, the first
+ * of which is number from / 32,768, rounded down. Row 1 counts them so, also where the range is not inside. Row 8 is given if two of the nonces are equal, or if one is that of a chunk now in the file, covered or not, good or
  * not. The nonce of the header does not count.
  * The mend is done in the caller's buffer. While it runs, the cleartext of one covered chunk at a time stands there: lend memory that
  * nobody else reads, not a map of the stored file. Storing it safely is the caller's: if power is lost in the middle, a half-written

@@ -154,6 +154,15 @@ static void show_the_line(const struct club_vault *club)
     printf("    %.*s", LINE_SIZE, (const char *)line);
 }
 
+/* How many nonces a mend takes: one for each chunk that has some of the bytes, whatever their place. */
+static void count_the_nonces(void)
+{
+    check(SKRAPNEFJA_COVERING_CHUNKS(WRONG_PLACE, TIME_SIZE) == 2, "two chunks have some of the time");
+    check(SKRAPNEFJA_COVERING_CHUNKS(WRONG_PLACE + TIME_SIZE, TIME_SIZE) == 1, "one chunk has what follows");
+    check(SKRAPNEFJA_COVERING_CHUNKS(UINT64_MAX, 2) == 2, "the place does not wrap");
+    check(SKRAPNEFJA_COVERING_CHUNKS(WRONG_PLACE, 0) == 0, "no chunk has no bytes");
+}
+
 /* A mend in the first two chunks, with a new nonce for each. */
 static void mend_the_time(struct club_vault *club)
 {
@@ -277,6 +286,7 @@ static void use_the_vault(struct club_vault *club)
 
 int main(void)
 {
+    count_the_nonces();
     use_the_vault(&own);
     use_the_vault(&older);
     return 0;
