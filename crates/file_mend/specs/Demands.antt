@@ -1,7 +1,7 @@
 -- The demands on the mend, for every record: they go by its combo.
 -- Assumes nothing.
 use Rattle.frame.specs.Rules.{KeySizes}
-use Rattle.mend_spec.specs.Statements.{PatchedBytes, PatchedParts, MendRowsExactly, MendRowsAscend, MendRowTen, MendRowOne, EmptyMend, MendsExactly}
+use Rattle.mend_spec.specs.Statements.{DueBytes, DueCovers, PatchedBytes, PatchedParts, MendRowsExactly, MendRowsAscend, MendRowTen, MendRowOne, EmptyMend, MendsExactly}
 use Rattle.vault.specs.declared.record.Vault.{Vault}
 use Rattle.vault.specs.Vault.{codecOf, Keys}
 
@@ -9,8 +9,8 @@ use Rattle.vault.specs.Vault.{codecOf, Keys}
 -- empty range changes nothing. Any keys. A mend that succeeds leaves what the writing rules give for the lent nonces and the old cleartext with the range replaced.
 abbrev pub MendDemand : Type 0
 MendDemand =
-    PatchedBytes × PatchedParts
+    DueBytes × DueCovers × PatchedBytes × PatchedParts
     × ((v : Vault) →
     let C = codecOf v in
     let Sized = KeySizes (v .enc) (v .mac) in
-    MendRowsExactly C Sized × MendRowsAscend C Sized × MendRowTen C Sized × MendRowOne C × EmptyMend C Sized × (Keys v → MendsExactly C))
+    MendRowsExactly C Sized × MendRowsAscend C Sized × MendRowTen C Sized × MendRowOne C Sized × EmptyMend C Sized × (Keys v → MendsExactly C))

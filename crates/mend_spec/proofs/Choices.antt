@@ -1,4 +1,4 @@
--- When the mend of the file of a choice succeeds; and a mended file that is alike to that of a choice.
+-- A file that is alike to that of a choice: when its mend succeeds, and what it is alike to then.
 -- Assumes nothing.
 use mathlib.Core.Path.{_≡_, refl, sym, ap, ap₂, _∙_, subst}
 use mathlib.Core.Bool.{true}
@@ -11,16 +11,17 @@ use Rattle.octets.specs.Bytes.{placed}
 use Rattle.octets.proofs.Placed.{placed-length, below-placed}
 use Rattle.octets.proofs.Rows.{succeeds-exactly}
 use Rattle.octets.proofs.Tests.{self}
-use Rattle.frame.specs.Layout.{chunkSize, chunks, covering, fileLength, clearLength, headerAt, chunkAt, Covers, Alike, allParts}
+use Rattle.frame.specs.Layout.{chunkSize, chunks, covering, fileLength, clearLength, headerAt, chunkAt, Covers, Alike}
 use Rattle.frame.specs.Frame.{Head, Codec, Choice, Fits, fileOf, headIn}
 use Rattle.frame.specs.Laws.{Laws}
 use Rattle.frame.specs.Rules.{piece}
-use Rattle.frame.proofs.Pieces.{covers-end, covers-some, covers-count, nonceOf, nonce-piece}
+use Rattle.frame.proofs.Pieces.{covers-end, covers-some, covers-count}
+use Rattle.frame.proofs.Rules.{length-exactly}
 use Rattle.frame.proofs.Success.{head-alike}
 use Rattle.frame.proofs.Written as written
-use Rattle.mend_spec.specs.Mend.{patched, nonceIn, mendedChoice, mended, mendRows, mendFile}
+use Rattle.mend_spec.specs.Mend.{patched, mendedChoice, mended, mendRows, mendFile}
 use Rattle.mend_spec.specs.Rules.{mendRules}
-use Rattle.mend_spec.specs.Statements.{Mending, after, MendsChoice, MendedAlike}
+use Rattle.mend_spec.specs.Statements.{Mending, after, MendsAlike, MendedAlike}
 use Rattle.mend_spec.proofs.Ends.{Mends, mend-matches}
 use Rattle.mend_spec.proofs.Patches.{patched-parts}
 use Rattle.mend_spec.proofs.After.{g-length, g-header, mends-of, after-is, mended-chunks}
@@ -29,18 +30,12 @@ use Rattle.mend_spec.proofs.Files.{pieces-within}
 module _ (C : Codec) (𝓛 : Laws C) where
   open Codec C using (sizes as z, keysRight, headerOf, chunkOf, headerGood, good, plain)
 
-  -- the nonce of chunk j of the file of a choice
-  nonce-said : (c : Choice) → Fits z c → (j : ℕ) → chunkSize * j < length (c .clear) → nonceIn z (fileOf C c) j ≡ piece (z .nonce) (c .nonces) j
-  nonce-said c fits j h =
-      sym (nonce-piece z (𝓛 .chunk-laws .nonce-size) (fileOf C c) (length (c .clear)) j (written.file-length C 𝓛 c fits) h)
-      ∙ ap (λ (l : List ℕ). piece (z .nonce) l j) (written.file-nonces C 𝓛 c fits)
-
-  pub mends-choice : MendsChoice C
+  pub mends-alike : MendsAlike C
   unfolding mendFile mendRows
-  mends-choice c from new nonces fits =
-      let f = fileOf C c in
-      let n = written.file-clear-length C 𝓛 c fits in
-      let head = written.file-head C 𝓛 c fits in
+  mends-alike f c from new nonces fits alike =
+      let n = ap (clearLength z) (alike .same-length) ∙ written.file-clear-length C 𝓛 c fits in
+      let head = head-alike C f (fileOf C c) (alike .same-header) ∙ written.file-head C 𝓛 c fits in
+      let long = alike .same-length ∙ written.file-length C 𝓛 c fits in
       let rows = mendRows C f from new nonces in
       let rules = mendRules C (keysRight ≡ true) f from new nonces in
       let met = succeeds-exactly rows rules (mend-matches C (keysRight ≡ true) (self keysRight) f from new nonces) refl (length new ∷ []) (mended C f from new nonces) f in (
@@ -48,22 +43,25 @@ module _ (C : Codec) (𝓛 : Laws C) where
             let t = met .0 s in
             let w = t .1 .1 .0 in
             let fresh = t .1 .1 .1 .0 in
-            (t .0 .1, omega (arith, w, n), fresh .0, λ i j a b q. fresh .1 i j a (omega (arith, b, n)) (q ∙ sym (nonce-said c fits j (omega (arith, b))))),
+            (t .0 .1, omega (arith, w, n), fresh .0, λ i j a b. fresh .1 i j a (omega (arith, b, n))),
         λ t.
             let w = t .1 in
+            let inside : from + length new ≤ clearLength z (length f) = omega (arith, w, n) in
+            let right = length-exactly z (length f) .1 (length (c .clear), fits .clear-size, long) in
             met .1 (
               (𝓛 .keys-right, t .0),
               (
-                (length (c .clear), fits .clear-size, written.file-length C 𝓛 c fits),
+                (length (c .clear), fits .clear-size, long),
                 (
-                  omega (arith, w, n),
+                  inside,
                   (
-                    (t .2, λ i j a b q. let k : j < chunks (length (c .clear)) = omega (arith, b, n) in t .3 i j a k (q ∙ nonce-said c fits j (omega (arith, k)))),
+                    (t .2, λ i j a b. t .3 i j a (omega (arith, b, n))),
                     (
-                      ap headerGood (written.file-header C 𝓛 c fits) ∙ 𝓛 .header-good (c .head) (fits .head-fits),
+                      ap headerGood (alike .same-header ∙ written.file-header C 𝓛 c fits) ∙ 𝓛 .header-good (c .head) (fits .head-fits),
                       (
                         λ i a b d.
-                            ap (λ (h : Head). good h i (chunkAt z f i)) head
+                            ap₂ (λ (h : Head) (x : List ℕ). good h i x) head
+                            (alike .same-chunks i (record { inside = record { right = right; within = inside }; some = a; low = b; high = d }))
                             ∙ written.file-good C 𝓛 c fits i (covers-some (length (c .clear)) from (length new) i w b (covers-count from (length new) i a b d)),
                         tt,
                       ),

@@ -4,7 +4,7 @@ use mathlib.Core.Path.{_≡_, refl, sym, ap, _∙_, subst}
 use mathlib.Core.Bool.{true, false, not}
 use mathlib.Core.Logic.{_↔_}
 use mathlib.Core.List.{List, [], _∷_}
-use Prim.Native.Nat.{ℕ, _+_, _*_, _/_, _≤_, _<_}
+use Prim.Native.Nat.{ℕ, _+_, _-_, _*_, _/_, _≤_, _<_}
 use native.Mathlib.Nat.{mul-zero}
 use native.Mathlib.Omega.{arith}
 use lib.ListN.{length}
@@ -23,7 +23,7 @@ use Rattle.frame.proofs.RowTen.{bad-is-bad, least}
 use Rattle.mend_spec.specs.Mend.{anyInUse, clashes, mendedFrom, mended, mendRows, mendFile}
 use Rattle.mend_spec.specs.Rules.{NonceForEach, FreshNonces, mendRules}
 use Rattle.mend_spec.specs.Statements.{MendRowsExactly, MendRowsAscend, MendRowTen, MendRowOne, EmptyMend}
-use Rattle.mend_spec.proofs.Nonces.{counted-exactly, clashes-exactly}
+use Rattle.mend_spec.proofs.Nonces.{covering-none, covering-number, counted-exactly, counted-by, clashes-exactly}
 
 -- the number that a row returns
 abbrev at : Outcome → ℕ
@@ -136,6 +136,17 @@ module _ (C : Codec) where
     mend-rows-exactly f from new nonces =
         ends-by (mendRows C f from new nonces) (mendRules C Keys f from new nonces) (mend-matches f from new nonces) refl (length new ∷ []) (mended C f from new nonces) f
 
+    pub mend-row-one : MendRowOne C Keys
+    mend-row-one f from new nonces =
+        let a = mend-rows-exactly f from new nonces .0 in
+        let n = length new in
+        let o = mul-zero (z .nonce) in (
+          λ e. let k = counted-by z from n 0 nonces (covering-none from n e) in (λ g t. a .0 g .1 (t .0, k .1 (t .1 ∙ sym o)), λ h. a .1 (tt, λ t. h (t .0, k .0 (t .1) ∙ o))),
+          λ s.
+              let k = counted-by z from n ((from + n - 1) / chunkSize + 1 - from / chunkSize) nonces (covering-number from n s) in
+              (λ g t. a .0 g .1 (t .0, k .1 (t .1)), λ h. a .1 (tt, λ t. h (t .0, k .0 (t .1)))),
+        )
+
     pub mend-rows-ascend : MendRowsAscend C Keys
     mend-rows-ascend f from new nonces = refl
 
@@ -205,9 +216,3 @@ module _ (C : Codec) where
 
     pub mend-row-ten : MendRowTen C Keys
     mend-row-ten f from i new nonces = (λ e. lowest f from i new nonces (ap (λ (x : End). x .outcome) e), given f from i new nonces)
-
-  pub mend-row-one : MendRowOne C
-  mend-row-one f g from new nonces =
-      let a = mend-rows-exactly (keysRight ≡ true) (self keysRight) f from new nonces .0 in
-      let b = mend-rows-exactly (keysRight ≡ true) (self keysRight) g from new nonces .0 in
-      (λ e. b .1 (a .0 e), λ e. a .1 (b .0 e))

@@ -19,7 +19,7 @@ use Rattle.mend_spec.proofs.Ends.{Mends}
 use Rattle.mend_spec.proofs.Nonces.{due-exactly, clashes-exactly}
 use Rattle.mend_spec.proofs.After.{head-fits, nonce-long, either, g-chunk, g-other, mends-of, after-is, mended-chunks, mended-rest, mend-bytes, mended-reads, mended-reads-back, mended-opens}
 use Rattle.mend_spec.proofs.Files.{mended-file}
-use Rattle.mend_spec.proofs.Choices.{mends-choice, mended-alike}
+use Rattle.mend_spec.proofs.Choices.{mends-alike, mended-alike}
 
 module _ (C : Codec) (𝓛 : Laws C) where
   open Codec C using (sizes as z)
@@ -81,7 +81,7 @@ module _ (C : Codec) (𝓛 : Laws C) where
         mended-chunks = mended-chunks C 𝓛;
         mended-rest = mended-rest C 𝓛;
         mend-bytes = mend-bytes C 𝓛;
-        mends-choice = mends-choice C 𝓛;
+        mends-alike = mends-alike C 𝓛;
         mended-file = mended-file C 𝓛;
         mended-alike = mended-alike C 𝓛;
         mended-opens = mended-opens C 𝓛;

@@ -4,7 +4,7 @@ use mathlib.Core.Path.{_≡_, refl, sym, ap, _∙_}
 use mathlib.Core.Bool.{true, false}
 use mathlib.Core.Logic.{_↔_, ⊎-elim}
 use mathlib.Core.List.{List}
-use Prim.Native.Nat.{ℕ, zero, suc, _+_, _*_, _/_, _≤_, _<_}
+use Prim.Native.Nat.{ℕ, zero, suc, _+_, _-_, _*_, _/_, _≤_, _<_}
 use native.Mathlib.Omega.{arith}
 use lib.ListN.{length, take, drop}
 use lib.Dec.{eqb}
@@ -18,6 +18,7 @@ use Rattle.frame.proofs.Pieces.{covers-all, covers-count}
 use Rattle.frame.proofs.Rules.{piece-first, piece-drop, repeats-exactly}
 use Rattle.mend_spec.specs.Mend.{nonceIn, inUse, anyInUse, clashes}
 use Rattle.mend_spec.specs.Rules.{Due, NonceForEach, FreshNonces}
+use Rattle.mend_spec.specs.Statements.{DueBytes, DueCovers}
 
 -- the nonces that are due are those with a number below the count of covering chunks
 pub due-exactly : (from count i : ℕ) → (i < covering from count) ↔ Due from count i
@@ -26,12 +27,36 @@ due-exactly from count i = (
   λ l. let u = covers-count from count (from / chunkSize + i) (l .0) (omega arith) (l .1) in omega (arith, u),
 )
 
+-- and a byte of the range lies in the chunk of each
+pub due-bytes : DueBytes
+due-bytes from count zero = (
+  λ d. (from, omega arith, omega (arith, d .0), omega arith),
+  λ t. let a = t .1 in let b = t .2 in let c = t .3 in (omega (arith, a, b), omega (arith, a, b, c)),
+)
+due-bytes from count (suc i) = (
+  λ d. let h = d .1 in (chunkSize * (from / chunkSize + suc i), omega arith, omega (arith, d .0, h), omega arith),
+  λ t. let a = t .1 in let b = t .2 in let c = t .3 in (omega (arith, a, b), omega (arith, a, b, c)),
+)
+
+pub due-covers : DueCovers
+due-covers z l from count i s = (λ d. record { inside = s; some = d .0; low = omega arith; high = d .1 }, λ v. (v .some, v .high))
+
 -- two counts below which the same numbers are, are equal
 same-count : (a b : ℕ) → ((i : ℕ) → i < a → i < b) → ((i : ℕ) → i < b → i < a) → a ≡ b
 same-count a b f g =
     ⊎-elim (λ (h : a ≤ b). ⊎-elim (λ (k : b ≤ a). omega (arith, h, k)) (λ (k : a < b). let x = g a k in absurd (omega (arith, x))) (le-or-lt b a))
     (λ (h : b < a). let x = f b h in absurd (omega (arith, x)))
     (le-or-lt a b)
+
+pub covering-none : (from count : ℕ) → count ≡ 0 → covering from count ≡ 0
+unfolding covering
+covering-none from zero e = refl
+covering-none from (suc c) e = absurd (omega (arith, e))
+
+pub covering-number : (from count : ℕ) → 0 < count → covering from count ≡ (from + count - 1) / chunkSize + 1 - from / chunkSize
+unfolding covering
+covering-number from zero h = absurd (omega arith)
+covering-number from (suc c) h = omega arith
 
 module _ (z : Sizes) where
   open Sizes z using (nonce)
@@ -44,6 +69,14 @@ module _ (z : Sizes) where
         same-count (t .0) (covering from count) (λ i h. due-exactly from count i .1 (t .2 i .0 h)) (λ i h. t .2 i .1 (due-exactly from count i .0 h)) in
         eq-eqb (length nonces) (nonce * covering from count) (t .1 ∙ ap (λ (m : ℕ). nonce * m) k),
   )
+
+  -- the count by its number
+  pub counted-by : (from count k : ℕ) (nonces : List ℕ) → covering from count ≡ k → NonceForEach z from count nonces ↔ (length nonces ≡ nonce * k)
+  counted-by from count k nonces e =
+      let t = counted-exactly from count nonces in (
+        λ x. eqb-true (length nonces) (nonce * covering from count) (t .1 x) ∙ ap (λ (m : ℕ). nonce * m) e,
+        λ x. t .0 (eq-eqb (length nonces) (nonce * covering from count) (x ∙ ap (λ (m : ℕ). nonce * m) (sym e))),
+      )
 
   in-use-exactly : (n : ℕ) (x f : List ℕ) (i : ℕ) → (inUse z x f i n ≡ false) ↔ ((j : ℕ) → i ≤ j → j < i + n → x ≡ nonceIn z f j → ⊥)
   unfolding inUse

@@ -5,15 +5,23 @@ use mathlib.Core.Bool.{true}
 use mathlib.Core.Logic.{_↔_, _⊎_}
 use mathlib.Core.List.{List, [], _∷_}
 use Prim.Native.Nat.{ℕ, _+_, _-_, _*_, _/_, _≤_, _<_}
-use lib.ListN.{length, drop, getD}
+use lib.ListN.{length, take, drop, getD}
 use Rattle.octets.specs.Bytes.{Bytes, filled, placed}
-use Rattle.octets.specs.Rows.{done, refused, refusedAt, EndsBy, Ascending, End, ended, ending, Succeeded}
+use Rattle.octets.specs.Rows.{done, refused, refusedAt, EndsBy, numbers, End, ended, ending, Succeeded}
 use Rattle.frame.specs.Layout.{Sizes, clearLength, headerAt, chunkAt, Inside, Covers, Alike}
 use Rattle.frame.specs.Frame.{Codec, Choice, Fits, fileOf, headIn, clearOf, readRange, openFile}
 use Rattle.frame.specs.Rules.{piece, chunkCount}
 use Rattle.frame.specs.Statements.{Room, WrongTag}
 use Rattle.mend_spec.specs.Mend.{patched, chunkStart, nonceIn, mendedChoice, mended, mendFile}
 use Rattle.mend_spec.specs.Rules.{Due, NonceForEach, FreshNonces, mendRules}
+
+-- A nonce is due exactly when a byte of the range lies in the chunk that it is for.
+abbrev pub DueBytes : Type 0
+DueBytes = (from count i : ℕ) → Due from count i ↔ ((p : ℕ) × (from ≤ p) × (p < from + count) × (p / 32768 ≡ from / 32768 + i))
+
+-- And, of a range that is inside, exactly for the covering chunks.
+abbrev pub DueCovers : Type 0
+DueCovers = (z : Sizes) (l from count i : ℕ) → Inside z l from count → Due from count i ↔ Covers z l from count (from / 32768 + i)
 
 -- Byte k of the cleartext of chunk i after a range is replaced: byte 32,768 * i + k of the whole. It is the new one if it lies in the range, and else the old one.
 abbrev pub PatchedBytes : Type 0
@@ -38,9 +46,9 @@ module _ (C : Codec) where
       (f : List ℕ) (from : ℕ) (new nonces : List ℕ)
       → EndsBy (mendRules C Keys f from new nonces) (length new ∷ []) (mended C f from new nonces) f (mendFile C f from new nonces)
 
-  -- The numbers of the rules ascend, so that with `MendRowsExactly` the lowest of the rows that apply is given.
+  -- The numbers of the rules, written out: they ascend, so that with `MendRowsExactly` the lowest of the rows that apply is given.
   abbrev pub MendRowsAscend : Type 0 → Type 0
-  MendRowsAscend Keys = (f : List ℕ) (from : ℕ) (new nonces : List ℕ) → Ascending (mendRules C Keys f from new nonces)
+  MendRowsAscend Keys = (f : List ℕ) (from : ℕ) (new nonces : List ℕ) → numbers (mendRules C Keys f from new nonces) ≡ 1 ∷ 4 ∷ 6 ∷ 8 ∷ 9 ∷ 10 ∷ []
 
   -- Row 10 is given with the number i exactly when the keys have their sizes, there is a nonce for each covering chunk, the range is inside, the nonces are fresh, the header is
   -- good, and i is the lowest covering chunk whose tag is wrong.
@@ -51,11 +59,13 @@ module _ (C : Codec) where
       ↔ (Keys × NonceForEach z from (length new) nonces × Inside z (length f) from (length new) × FreshNonces z f from (length new) nonces × (headerGood (headerAt z f) ≡ true)
       × WrongTag C f from (length new) i × ((j : ℕ) → WrongTag C f from (length new) j → i ≤ j))
 
-  -- Whether row 1 is given goes by the range and the nonces alone, not by the file.
-  abbrev pub MendRowOne : Type 0
-  MendRowOne =
-      (f g : List ℕ) (from : ℕ) (new nonces : List ℕ)
-      → (mendFile C f from new nonces ≡ ended (refused 1) f) ↔ (mendFile C g from new nonces ≡ ended (refused 1) g)
+  -- Row 1 in numbers, whatever the file: it is given exactly when the master keys have not their sizes, or the nonces are not one for each chunk from number from / 32,768 up to
+  -- (from + count - 1) / 32,768, and none where count is 0.
+  abbrev pub MendRowOne : Type 0 → Type 0
+  MendRowOne Keys =
+      (f : List ℕ) (from : ℕ) (new nonces : List ℕ)
+      → (length new ≡ 0 → (mendFile C f from new nonces ≡ ended (refused 1) f) ↔ (Keys × (length nonces ≡ 0) → ⊥))
+      × (0 < length new → (mendFile C f from new nonces ≡ ended (refused 1) f) ↔ (Keys × (length nonces ≡ z .nonce * ((from + length new - 1) / 32768 + 1 - from / 32768)) → ⊥))
 
   -- An empty range changes nothing. It asks for no nonce and for no good chunk: it is done, with the length 0, exactly when the master keys have their sizes, no nonce
   -- is lent, the range is inside and the header is good.
@@ -65,15 +75,15 @@ module _ (C : Codec) where
       → (mendFile C f from [] nonces .buffer ≡ f)
       × ((mendFile C f from [] nonces ≡ ended (done (0 ∷ [])) f) ↔ (Keys × (length nonces ≡ 0) × Inside z (length f) from 0 × (headerGood (headerAt z f) ≡ true)))
 
-  -- The mend of the file of a choice succeeds exactly when there is a nonce for each covering chunk, the range is inside, and the nonces differ from each other and
-  -- from those of the choice.
-  abbrev pub MendsChoice : Type 0
-  MendsChoice =
-      (c : Choice) (from : ℕ) (new nonces : List ℕ) → Fits z c
-      → Succeeded (mendFile C (fileOf C c) from new nonces)
+  -- The mend of a file that is alike to that of a choice in length, header and covering chunks, whatever the other chunks hold, succeeds exactly when there is a nonce for each covering
+  -- chunk, the range is inside, and the nonces differ from each other and from those of the file's chunks.
+  abbrev pub MendsAlike : Type 0
+  MendsAlike =
+      (f : List ℕ) (c : Choice) (from : ℕ) (new nonces : List ℕ) → Fits z c → Alike z f (fileOf C c) from (length new)
+      → Succeeded (mendFile C f from new nonces)
       ↔ (NonceForEach z from (length new) nonces × (from + length new ≤ length (c .clear))
       × ((i j : ℕ) → i < j → Due from (length new) j → piece (z .nonce) nonces i ≡ piece (z .nonce) nonces j → ⊥)
-      × ((i j : ℕ) → Due from (length new) i → j < chunkCount (length (c .clear)) → piece (z .nonce) nonces i ≡ piece (z .nonce) (c .nonces) j → ⊥))
+      × ((i j : ℕ) → Due from (length new) i → j < chunkCount (length (c .clear)) → piece (z .nonce) nonces i ≡ take (z .nonce) (chunkAt z f j) → ⊥))
 
   -- What is lent are byte strings, and the mend succeeds.
   pub record Mending (f : List ℕ) (from : ℕ) (new nonces : List ℕ) : Type 0 where
@@ -150,7 +160,7 @@ module _ (C : Codec) where
     pub mended-chunks : MendedChunks
     pub mended-rest : MendedRest
     pub mend-bytes : MendBytes
-    pub mends-choice : MendsChoice
+    pub mends-alike : MendsAlike
     pub mended-file : MendedFile
     pub mended-alike : MendedAlike
     pub mended-opens : MendedOpens
