@@ -209,8 +209,9 @@ uint32_t skrapnefja_read_range(const uint8_t *vault, size_t vault_len,
  * found good. No other byte of the file changes, and a chunk that is not covered may be bad, and stays so. `from` may be any number.
  * A range of no bytes covers no chunk, looks at the header only, and changes nothing.
  * `nonces` has 12 or 16 bytes for each covered chunk, in order: for SKRAPNEFJA_COVERING_CHUNKS(from, new_bytes_len) of them, the first
- * of which is number from / 32,768, rounded down. Row 1 counts them so, also where the range is not inside. Row 8 is given if two of the nonces are equal, or if one is that of a chunk now in the file, covered or not, good or
- * not. The nonce of the header does not count.
+ * of which is number from / 32,768, rounded down. Row 1 counts them so, also where the range is not inside. Row 8 is given if two of
+ * the nonces are equal, or if one is that of a chunk now in the file, covered or not, good or not. The nonce of the header does not
+ * count.
  * The mend is done in the caller's buffer. While it runs, the cleartext of one covered chunk at a time stands there: lend memory that
  * nobody else reads, not a map of the stored file. Storing it safely is the caller's: if power is lost in the middle, a half-written
  * file can be left on a card. The bytes to store afterwards are those from the start of the first covered chunk to the end of the
