@@ -1,7 +1,7 @@
 -- The demands on the mend, for every record: they go by its combo.
 -- Assumes nothing.
 use Rattle.frame.specs.Rules.{KeySizes}
-use Rattle.mend_spec.specs.Statements.{DueBytes, DueCovers, PatchedBytes, PatchedParts, MendRowsExactly, MendRowsAscend, MendRowTen, MendRowOne, EmptyMend, MendsExactly}
+use Rattle.mend_spec.specs.Statements.{DueBytes, DueCovers, PatchedBytes, PatchedParts, MendRowsExactly, MendRowsAscend, MendRowTen, MendRowOne, MendRowsFourToNine, EmptyMend, MendsExactly}
 use Rattle.vault.specs.declared.record.Vault.{Vault}
 use Rattle.vault.specs.Vault.{codecOf, Keys}
 
@@ -13,4 +13,4 @@ MendDemand =
     × ((v : Vault) →
     let C = codecOf v in
     let Sized = KeySizes (v .enc) (v .mac) in
-    MendRowsExactly C Sized × MendRowsAscend C Sized × MendRowTen C Sized × MendRowOne C Sized × EmptyMend C Sized × (Keys v → MendsExactly C))
+    MendRowsExactly C Sized × MendRowsAscend C Sized × MendRowTen C Sized × MendRowOne C Sized × MendRowsFourToNine C Sized × EmptyMend C Sized × (Keys v → MendsExactly C))

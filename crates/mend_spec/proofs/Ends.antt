@@ -22,7 +22,7 @@ use Rattle.frame.proofs.Rules.{length-exactly, covering-good, row-test}
 use Rattle.frame.proofs.RowTen.{bad-is-bad, least}
 use Rattle.mend_spec.specs.Mend.{anyInUse, clashes, mendedFrom, mended, mendRows, mendFile}
 use Rattle.mend_spec.specs.Rules.{NonceForEach, FreshNonces, mendRules}
-use Rattle.mend_spec.specs.Statements.{MendRowsExactly, MendRowsAscend, MendRowTen, MendRowOne, EmptyMend}
+use Rattle.mend_spec.specs.Statements.{MendRowsExactly, MendRowsAscend, MendRowTen, MendRowOne, MendRowsFourToNine, EmptyMend}
 use Rattle.mend_spec.proofs.Nonces.{covering-none, covering-number, counted-exactly, counted-by, clashes-exactly}
 
 -- the number that a row returns
@@ -145,6 +145,15 @@ module _ (C : Codec) where
           λ s.
               let k = counted-by z from n ((from + n - 1) / chunkSize + 1 - from / chunkSize) nonces (covering-number from n s) in
               (λ g t. a .0 g .1 (t .0, k .1 (t .1)), λ h. a .1 (tt, λ t. h (t .0, k .0 (t .1)))),
+        )
+
+    pub mend-rows-four-to-nine : MendRowsFourToNine C Keys
+    mend-rows-four-to-nine f from new nonces =
+        let a = mend-rows-exactly f from new nonces .1 in (
+          (λ g. (a .0 .0 g .0 .1, a .0 .0 g .1), λ t. a .0 .1 ((tt, t .0), t .1)),
+          (λ g. let m = a .1 .0 .0 g in (m .0 .0 .1, m .0 .1, m .1), λ t. a .1 .0 .1 (((tt, t .0), t .1), t .2)),
+          (λ g. let m = a .1 .1 .0 .0 g in (m .0 .0 .0 .1, m .0 .0 .1, m .0 .1, m .1), λ t. a .1 .1 .0 .1 ((((tt, t .0), t .1), t .2), t .3)),
+          (λ g. let m = a .1 .1 .1 .0 .0 g in (m .0 .0 .0 .0 .1, m .0 .0 .0 .1, m .0 .0 .1, m .0 .1, m .1), λ t. a .1 .1 .1 .0 .1 (((((tt, t .0), t .1), t .2), t .3), t .4)),
         )
 
     pub mend-rows-ascend : MendRowsAscend C Keys

@@ -10,7 +10,7 @@ use Rattle.octets.specs.Bytes.{Bytes, filled, placed}
 use Rattle.octets.specs.Rows.{done, refused, refusedAt, EndsBy, numbers, End, ended, ending, Succeeded}
 use Rattle.frame.specs.Layout.{Sizes, clearLength, headerAt, chunkAt, Inside, Covers, Alike}
 use Rattle.frame.specs.Frame.{Codec, Choice, Fits, fileOf, headIn, clearOf, readRange, openFile}
-use Rattle.frame.specs.Rules.{piece, chunkCount}
+use Rattle.frame.specs.Rules.{piece, FileLength, chunkCount}
 use Rattle.frame.specs.Statements.{Room, WrongTag}
 use Rattle.mend_spec.specs.Mend.{patched, chunkStart, nonceIn, mendedChoice, mended, mendFile}
 use Rattle.mend_spec.specs.Rules.{Due, NonceForEach, FreshNonces, mendRules}
@@ -60,12 +60,27 @@ module _ (C : Codec) where
       × WrongTag C f from (length new) i × ((j : ℕ) → WrongTag C f from (length new) j → i ≤ j))
 
   -- Row 1 in numbers, whatever the file: it is given exactly when the master keys have not their sizes, or the nonces are not one for each chunk from number from / 32,768 up to
-  -- (from + count - 1) / 32,768, and none where count is 0.
+  -- (from + count - 1) / 32,768 (none where count is 0).
   abbrev pub MendRowOne : Type 0 → Type 0
   MendRowOne Keys =
       (f : List ℕ) (from : ℕ) (new nonces : List ℕ)
       → (length new ≡ 0 → (mendFile C f from new nonces ≡ ended (refused 1) f) ↔ (Keys × (length nonces ≡ 0) → ⊥))
       × (0 < length new → (mendFile C f from new nonces ≡ ended (refused 1) f) ↔ (Keys × (length nonces ≡ z .nonce * ((from + length new - 1) / 32768 + 1 - from / 32768)) → ⊥))
+
+  -- Rows 4, 6, 8 and 9, each with all that has to hold before it. That the nonces are fresh is written out, so that row 8 is given whatever the header and the tags are, and
+  -- row 9 only for fresh nonces.
+  abbrev pub MendRowsFourToNine : Type 0 → Type 0
+  MendRowsFourToNine Keys =
+      (f : List ℕ) (from : ℕ) (new nonces : List ℕ) →
+      let e = mendFile C f from new nonces in
+      let Counted = Keys × NonceForEach z from (length new) nonces in
+      let Fresh =
+      ((i j : ℕ) → i < j → Due from (length new) j → piece (z .nonce) nonces i ≡ piece (z .nonce) nonces j → ⊥)
+      × ((i j : ℕ) → Due from (length new) i → j < chunkCount (clearLength z (length f)) → piece (z .nonce) nonces i ≡ take (z .nonce) (chunkAt z f j) → ⊥) in
+      ((e ≡ ended (refused 4) f) ↔ (Counted × (FileLength z (length f) → ⊥)))
+      × ((e ≡ ended (refused 6) f) ↔ (Counted × FileLength z (length f) × (from + length new ≤ clearLength z (length f) → ⊥)))
+      × ((e ≡ ended (refused 8) f) ↔ (Counted × FileLength z (length f) × (from + length new ≤ clearLength z (length f)) × (Fresh → ⊥)))
+      × ((e ≡ ended (refused 9) f) ↔ (Counted × FileLength z (length f) × (from + length new ≤ clearLength z (length f)) × Fresh × (headerGood (headerAt z f) ≡ true → ⊥)))
 
   -- An empty range changes nothing. It asks for no nonce and for no good chunk: it is done, with the length 0, exactly when the master keys have their sizes, no nonce
   -- is lent, the range is inside and the header is good.
