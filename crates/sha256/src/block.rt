@@ -29,13 +29,13 @@ pub struct Working {
     pub h: u32,
 }
 
-// A word of the schedule, by those 2, 7, 15 and 16 places before it.
+// A word of the schedule, by those 2, 7, 15 and 16 places before it. The nearest, which is known last, is added last.
 fn next_word(a: u32, b: u32, c: u32, d: u32) -> u32
     ensures { λ r. ⌜ r ≡ plus (plus (plus (σ1 a) b) (σ0 c)) d ⌝ }
 {
     wrapping_add_u32(
-        wrapping_add_u32(wrapping_add_u32(small_sigma1(a), b), small_sigma0(c)),
-        d,
+        wrapping_add_u32(wrapping_add_u32(d, small_sigma0(c)), b),
+        small_sigma1(a),
     )
 }
 
@@ -62,11 +62,12 @@ fn schedule(s: &[u8], at: usize) -> [u32; 64]
     w
 }
 
+// What waits for e is added last.
 fn temp1(e: u32, f: u32, g: u32, h: u32, k: u32, w: u32) -> u32
     ensures { λ r. ⌜ r ≡ spec.T1 e f g h k w ⌝ }
 {
-    let sum = wrapping_add_u32(wrapping_add_u32(h, big_sigma1(e)), ch(e, f, g));
-    wrapping_add_u32(wrapping_add_u32(sum, k), w)
+    let known = wrapping_add_u32(wrapping_add_u32(h, k), w);
+    wrapping_add_u32(wrapping_add_u32(known, ch(e, f, g)), big_sigma1(e))
 }
 
 fn temp2(a: u32, b: u32, c: u32) -> u32
