@@ -22,12 +22,12 @@ test:
 	rt ci 2>&1 | tee "$$log"
 	$(MAKE) --no-print-directory libraries
 	mkdir -p target/examples
-	for example in unlock vault mend; do
+	for example in unlock vault mend pages; do
 		cc -std=c99 -Wall -Wextra -Werror -Iinclude "examples/c/$$example.c" target/staticlib/libskrapnefja.a -o "target/examples/$$example"
 		"target/examples/$$example"
 	done
 	(cd bindings/rust && cargo test --offline && cargo run --offline --example unlock && cargo run --offline --example vault &&
-		cargo run --offline --example mend)
+		cargo run --offline --example mend && cargo run --offline --example pages)
 	(cd second && cargo test --release --offline)
 	tail -n 1 "$$log"
 

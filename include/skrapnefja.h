@@ -4,18 +4,21 @@
  * Slices
  *   A slice is a pointer and a number of bytes, and any bytes and lengths may be passed: a size that is wrong is refused.
  *   A pointer to no bytes may not be null: pass any other address with the length 0.
- *   `out`, `stored`, `full` of skrapnefja_write_name, `file` of skrapnefja_mend, and the numbers `length`, `full_length`, `reserved`
- *   and `at` are written to, and `combo` and `threshold` of skrapnefja_open_label. None of them may overlap another argument. The
- *   numbers may not be null.
+ *   `out`, `stored`, `full` of skrapnefja_write_name, `file` of skrapnefja_mend, `keys` of skrapnefja_open_reader, and the numbers
+ *   `length`, `full_length`, `reserved` and `at` are written to, and `combo` and `threshold` of skrapnefja_open_label. None of them
+ *   may overlap another argument. The numbers may not be null.
  *
  * What is returned and written
  *   Each function returns SKRAPNEFJA_DONE, or the row of the refusal: the first that applies of those named at the function, in the
  *   order in which they are named there. A vault that is lent is looked at before all else: row 1 if it has another size than 66,
  *   then, where a name is written or opened, row 18, then row 17. What row 1 says of keys and nonces is tried behind these.
+ *   skrapnefja_reader_read is lent no vault, and looks at the reader's keys first: row 1 if they have another size than 65, then row
+ *   17.
  *   Done: the answer stands at the front of `out`, its length in `length`. Bytes of `out` past it, and `at`, are as before. A mend
- *   has no `out`: it has changed `file` in place, and `length` is the number of new bytes.
+ *   has no `out`: it has changed `file` in place, and `length` is the number of new bytes. skrapnefja_open_reader has none either:
+ *   its answer stands at the front of `keys`, and `length` is that of the cleartext.
  *   Refused: nothing is written, but that row 10 writes the number of the chunk to `at`, and rows 5 and 13 the place where a text is
- *   broken.
+ *   broken; and that rows 4 and 9 of skrapnefja_open_reader write 65 zeros to the front of `keys`, if there is room for them.
  *
  * Where a text is broken
  *   Row 5 writes to `at` the place in the text of the name. Row 13 writes to it the place in the label, counted from the label's
@@ -26,8 +29,8 @@
  *
  * The vault
  *   A vault is one record: its master keys, its cipher combo and its threshold. skrapnefja_make_vault makes it, and it is lent to
- *   every other call but those on wrapped keys and on the label. Its bytes are keys: keep them as secret as keys, and wipe them when
- *   done, as the keys it is made of.
+ *   every other call but those on wrapped keys and on the label, and skrapnefja_reader_read. Its bytes are keys: keep them as secret
+ *   as keys, and wipe them when done, as the keys it is made of.
  *   Sizes go by the combo. Where two are named, the first is that of SIV_GCM, the second that of SIV_CTRMAC.
  *
  * Keys and nonces
@@ -53,14 +56,15 @@ extern "C" {
 /* What a function returns. */
 enum skrapnefja_row {
     SKRAPNEFJA_DONE = 0,
-    SKRAPNEFJA_KEY_OR_NONCE_SIZE = 1, /* a vault has not 66 bytes, a key not 32, a raw key not 64, a nonce not 12 or 16, as the combo
-                                         has it, or there is not one nonce for each chunk to write */
+    SKRAPNEFJA_KEY_OR_NONCE_SIZE = 1, /* a vault has not 66 bytes, a reader's keys not 65, a key not 32, a raw key not 64, a nonce not
+                                         12 or 16, as the combo has it, or there is not one nonce for each chunk to write */
     SKRAPNEFJA_DIRECTORY_ID = 2,      /* the directory ID has more than 36 bytes, or one that is not ASCII */
     SKRAPNEFJA_NAME = 3,              /* the name has no byte, more than 1,020, or is not proper text: well-formed UTF-8 without a
                                          zero byte and without '/'; at the openers of names tried last, behind row 12 */
     SKRAPNEFJA_LENGTH = 4,            /* no file of this combo has this length, or the cleartext is over the limit; a header isn't 68
                                          or 88 bytes, as the combo has it; a chunk's cleartext isn't 1 to 32,768 bytes, or the chunk
-                                         not 29 to 32,796 or 49 to 32,816; a wrapped key isn't 40 */
+                                         not 29 to 32,796 or 49 to 32,816; a wrapped key isn't 40; a read is through the reader of
+                                         no bytes */
     SKRAPNEFJA_TEXT = 5,              /* the text of a name is broken, or longer than the threshold at skrapnefja_open_name; `at` is
                                          the place */
     SKRAPNEFJA_RANGE = 6,             /* the range ends behind the cleartext */
@@ -76,7 +80,7 @@ enum skrapnefja_row {
     SKRAPNEFJA_ALG = 14,              /* the label's "alg" isn't HS256 */
     SKRAPNEFJA_SIGNATURE = 15,        /* the label's signature is wrong, as another raw key or damage can cause */
     SKRAPNEFJA_FORMAT = 16,           /* the label's "format" isn't 8 */
-    SKRAPNEFJA_COMBO = 17,            /* the combo is neither SIV_GCM nor SIV_CTRMAC */
+    SKRAPNEFJA_COMBO = 17,            /* the combo is neither SIV_GCM nor SIV_CTRMAC, nor 0 in a reader's keys */
     SKRAPNEFJA_THRESHOLD = 18,        /* the threshold isn't 36 to 220 */
     SKRAPNEFJA_CHECK_VALUE = 20       /* the check value of a wrapped key is wrong, as another key-encryption key or damage can cause */
 };
@@ -93,6 +97,7 @@ enum skrapnefja_combo {
 #define SKRAPNEFJA_RAW_KEY_SIZE 64              /* a raw key: the encryption master key, then the MAC master key */
 #define SKRAPNEFJA_LABEL_MAX 4096               /* a label, at most */
 #define SKRAPNEFJA_VAULT_SIZE 66                /* a vault */
+#define SKRAPNEFJA_READER_KEYS_SIZE 65          /* the keys of a reader */
 #define SKRAPNEFJA_SIV_GCM_NONCE_SIZE 12        /* the nonce of a header or a chunk */
 #define SKRAPNEFJA_SIV_GCM_HEADER_SIZE 68       /* a header as it is stored */
 #define SKRAPNEFJA_SIV_GCM_CHUNK_OVERHEAD 28    /* what a chunk as it is stored has more than its cleartext */
@@ -115,6 +120,16 @@ typedef struct skrapnefja_vault {
 } skrapnefja_vault;
 
 /*
+ * A reader: a file that is kept open. Its keys are the content key, the MAC master key in SIV_CTRMAC or 32 zeros in SIV_GCM, and the
+ * number of the combo in one byte. With 65 zeros as its keys it is the reader of no bytes, through which every read gets row 4.
+ */
+typedef struct skrapnefja_reader {
+    const uint8_t *file;                       /* the file's bytes, which stay the caller's */
+    size_t file_len;
+    uint8_t keys[SKRAPNEFJA_READER_KEYS_SIZE]; /* what skrapnefja_open_reader writes */
+} skrapnefja_reader;
+
+/*
  * How many chunks `count` bytes of a cleartext cover, the first of them at place `from`: as many nonces does skrapnefja_mend take.
  * `from` may be any number of 64 bits. It is not added to `count`, since that sum may wrap; `count` may be any size of a slice.
  */
@@ -123,6 +138,9 @@ typedef struct skrapnefja_vault {
 
 /* A vault as one argument of a call: its bytes and their number. With a pointer to a vault: SKRAPNEFJA_VAULT(*pointer). */
 #define SKRAPNEFJA_VAULT(vault) (vault).bytes, sizeof (vault).bytes
+
+/* A reader as one argument of a call: its file and its keys. With a pointer to a reader: SKRAPNEFJA_READER(*pointer). */
+#define SKRAPNEFJA_READER(reader) (reader).file, (reader).file_len, (reader).keys, sizeof (reader).keys
 
 /*
  * ---- Master keys. masterkey.cryptomator has those of the vault as "primaryMasterKey" (`enc`) and "hmacMasterKey" (`mac`), each
@@ -158,7 +176,7 @@ uint32_t skrapnefja_open_label(const uint8_t *raw_key, size_t raw_key_len, const
                                uint32_t *combo, uint32_t *threshold, uint64_t *at);
 
 /*
- * ---- The vault, which is lent to every call from here on:
+ * ---- The vault, which is lent to every call from here on but skrapnefja_reader_read:
  *     skrapnefja_open_label(raw_key, sizeof raw_key, label, label_len, &combo, &threshold, &at);
  *     skrapnefja_make_vault(enc, sizeof enc, mac, sizeof mac, combo, threshold, SKRAPNEFJA_VAULT(vault), &length);
  *     skrapnefja_open_file(SKRAPNEFJA_VAULT(vault), file, file_len, out, out_len, &length, &at);
@@ -222,6 +240,40 @@ uint32_t skrapnefja_mend(const uint8_t *vault, size_t vault_len,
                          uint8_t *file, size_t file_len, uint64_t from,
                          const uint8_t *new_bytes, size_t new_bytes_len,
                          const uint8_t *nonces, size_t nonces_len, uint64_t *length, uint64_t *at);
+
+/*
+ * ---- A file that is kept open: its header is opened once, and not at each read.
+ *     skrapnefja_reader log = {file, file_len, {0}};
+ *     skrapnefja_open_reader(SKRAPNEFJA_VAULT(vault), SKRAPNEFJA_READER(log), &length);
+ *     skrapnefja_reader_read(SKRAPNEFJA_READER(log), from, count, out, out_len, &length, &at);
+ * While the file's bytes are those for which the reader was made, a read returns and writes what skrapnefja_read_range does for that
+ * file and that vault. Reads do not change the reader: there may be any number of them, in any order. A mend leaves the header and
+ * the length, so the same reader reads the mended file. Another file needs a reader of its own, and so does the same one written anew:
+ * in SIV_GCM row 10 tells of it, but in SIV_CTRMAC, where the MAC does not depend on the content key, wrong bytes are read without a
+ * refusal.
+ * The keys of a reader are secret: keep them as secret as the vault, and wipe them when done. The encryption master key is not among
+ * them.
+ */
+
+/*
+ * Makes the reader of a file, once the header is found good: writes its keys, 65 bytes, and to `length` the length of the cleartext.
+ * No chunk is looked at. Where the file is refused, by row 4 or 9, the first 65 bytes of `keys`, if it has as many, are zeros, those of
+ * the reader of no bytes; the other rows leave `keys`. Rows 1, 17, 4, 7, 9.
+ */
+uint32_t skrapnefja_open_reader(const uint8_t *vault, size_t vault_len,
+                                const uint8_t *file, size_t file_len,
+                                uint8_t *keys, size_t keys_len, uint64_t *length);
+
+/*
+ * Reads `count` bytes of the cleartext of a reader's file, the first of them at place `from`, counted from 0, once every chunk that
+ * the range covers is found good. `from` and `count` may be any numbers. A range of no bytes looks at no chunk.
+ * The file is taken as it is at the call. Its first 12 or 16 bytes are the nonce of the header, and the rest of the header is not
+ * looked at. Keys that were made by hand are taken as they are too. Row 17 is given if their last byte is not 0, 1 or 2, and row 4 if
+ * it is 0, whatever the file. Rows 1, 17, 4, 6, 7, 10.
+ */
+uint32_t skrapnefja_reader_read(const uint8_t *file, size_t file_len,
+                                const uint8_t *keys, size_t keys_len, uint64_t from, uint64_t count,
+                                uint8_t *out, size_t out_len, uint64_t *length, uint64_t *at);
 
 /* ---- A single header, and single chunks: for a caller that does not hold the file whole. */
 

@@ -3,7 +3,8 @@
 //!
 //! A call tries its rows of the table of refusals in order, and writes only
 //! when none of them applies. It gives the length of what it wrote; a buffer
-//! that is longer keeps its rest. A mend changes a file where it stands.
+//! that is longer keeps its rest. A mend changes a file where it stands. A reader
+//! keeps a file open: where none is made, the reader of no bytes is given.
 
 mod bytes;
 mod chunk;
@@ -12,6 +13,7 @@ mod combo;
 mod directory;
 mod file;
 mod header;
+mod keys;
 mod label;
 mod lengths;
 mod master_key;
@@ -19,6 +21,8 @@ mod mend;
 mod name;
 mod nonces;
 mod range;
+mod read;
+mod reader;
 mod record;
 mod refusal;
 #[cfg(test)]
@@ -33,5 +37,6 @@ pub use label::open_label;
 pub use lengths::{CHUNK_LEN, MAX_CLEARTEXT_LEN};
 pub use master_key::{unwrap_key, wrap_key};
 pub use name::WrittenName;
+pub use reader::{open_reader, Reader, READER_KEYS_LEN};
 pub use record::Vault;
 pub use refusal::Refusal;

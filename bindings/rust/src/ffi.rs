@@ -4,8 +4,10 @@
 //! length is 0. Each function gives 0 for done, or else the row of the
 //! refusal. It sets `length`, `full_length`, `reserved`, and `combo` and
 //! `threshold` of a label, only if it gives 0, and `at` only if it gives 5, 10,
-//! or 13 for a broken segment. No buffer or result, and no file that is mended,
-//! may overlap anything else that is passed.
+//! or 13 for a broken segment. `skrapnefja_open_reader` sets the first 65 bytes
+//! of `keys`, if there are as many, also with rows 4 and 9: to zeros. No buffer
+//! or result, and no file that is mended, may overlap anything else that is
+//! passed.
 
 extern "C" {
     pub fn skrapnefja_open_label(
@@ -136,6 +138,29 @@ extern "C" {
         new_bytes_len: usize,
         nonces: *const u8,
         nonces_len: usize,
+        length: *mut u64,
+        at: *mut u64,
+    ) -> u32;
+
+    pub fn skrapnefja_open_reader(
+        vault: *const u8,
+        vault_len: usize,
+        file: *const u8,
+        file_len: usize,
+        keys: *mut u8,
+        keys_len: usize,
+        length: *mut u64,
+    ) -> u32;
+
+    pub fn skrapnefja_reader_read(
+        file: *const u8,
+        file_len: usize,
+        keys: *const u8,
+        keys_len: usize,
+        from: u64,
+        count: u64,
+        out: *mut u8,
+        out_len: usize,
         length: *mut u64,
         at: *mut u64,
     ) -> u32;

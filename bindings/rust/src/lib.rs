@@ -6,12 +6,14 @@
 //! whole answer to the start of the buffer and gives its length, or gives a
 //! [`Refusal`] and changes no byte. A buffer that is longer than the answer
 //! keeps its rest. [`Vault::mend`] has no such buffer: it changes the file that
-//! it is lent, where it stands. There is no state, and nothing is allocated.
+//! it is lent, where it stands. [`Vault::open_reader`] has none either: it gives
+//! a [`Reader`], of a refused file one of no bytes. There is no state, and
+//! nothing is allocated.
 //!
 //! A [`Vault`] is made of the two master keys of the vault, `enc` and `mac`, 32
 //! bytes each, which [`unwrap_key`] unwraps from the values in
 //! `masterkey.cryptomator`, and of its [`Label`], which [`Label::open`] reads
-//! from `vault.cryptomator`. Its methods are the calls.
+//! from `vault.cryptomator`. Its methods and [`Reader::read`] are the calls.
 //!
 //! Nonces have [`Combo::nonce_len`] bytes. They and the content key of a file
 //! are the caller's to choose at random, and never to use twice: GCM is broken
@@ -39,10 +41,11 @@
 //! ```
 //!
 //! `examples/unlock.rs` goes from these two files to an open file,
-//! `examples/vault.rs` shows more of the calls, and `examples/mend.rs` corrects a
-//! log in place. The library is looked for in `target/staticlib` of the
-//! repository, where `rt staticlib skrapnefja` writes it, or in the folder that
-//! the environment variable `SKRAPNEFJA_LIB_DIR` names at build time.
+//! `examples/vault.rs` shows more of the calls, `examples/mend.rs` corrects a log
+//! in place, and `examples/pages.rs` keeps one open. The library is looked for in
+//! `target/staticlib` of the repository, where `rt staticlib skrapnefja` writes
+//! it, or in the folder that the environment variable `SKRAPNEFJA_LIB_DIR` names
+//! at build time.
 
 #![warn(missing_docs)]
 
@@ -57,6 +60,7 @@ mod keys;
 mod label;
 mod lengths;
 mod names;
+mod reader;
 mod refusal;
 mod vault;
 
@@ -68,5 +72,6 @@ pub use keys::{unwrap_key, wrap_key, KEY_LEN, WRAPPED_KEY_LEN};
 pub use label::{Label, MAX_LABEL_LEN, MAX_THRESHOLD, MIN_THRESHOLD, RAW_KEY_LEN};
 pub use lengths::MAX_CLEARTEXT_LEN;
 pub use names::{WrittenName, MAX_FULL_LEN, MAX_NAME_LEN, MAX_STORED_LEN, PATH_LEN};
+pub use reader::{Reader, READER_KEYS_LEN};
 pub use refusal::Refusal;
 pub use vault::{Vault, VAULT_LEN};

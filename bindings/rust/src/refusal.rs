@@ -33,7 +33,7 @@ pub enum Refusal {
     /// 16,777,216 bytes; a header is not 68 bytes in SIV_GCM or 88 in
     /// SIV_CTRMAC; a chunk's cleartext is not 1 to 32,768 bytes, or its stored
     /// form not 29 to 32,796 in SIV_GCM or 49 to 32,816 in SIV_CTRMAC; a wrapped
-    /// key is not 40.
+    /// key is not 40; a read is through the reader of a refused file.
     Length,
     /// Row 5: the text of the (full) name is broken at this place, or has more
     /// characters than the threshold where the name is stored as it is.

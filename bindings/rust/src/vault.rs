@@ -9,9 +9,9 @@ use std::fmt::{self, Debug, Formatter};
 pub const VAULT_LEN: usize = 66;
 
 /// The master keys of a vault and what its label says. Every call but those on
-/// wrapped keys and [`Label::open`] is a method of it, and none is refused for
-/// the vault itself: its keys have their size, its combo is known, and its
-/// threshold is within the limits.
+/// wrapped keys, [`Label::open`] and [`Reader::read`](crate::Reader::read) is a
+/// method of it, and none is refused for the vault itself: its keys have their
+/// size, its combo is known, and its threshold is within the limits.
 ///
 /// Keep it as secret as the keys that are in it. Its memory is not wiped.
 #[derive(Clone)]

@@ -1,5 +1,6 @@
 //! The functions are declared here as they are in `include/skrapnefja.h` and in
-//! the library's own source, and the sizes, rows and combos are the same as in C.
+//! the library's own source, the sizes, rows and combos are the same as in C, and
+//! a reader of C is what its functions take.
 
 use skrapnefja::*;
 use std::collections::BTreeMap;
@@ -17,7 +18,7 @@ type Functions = BTreeMap<String, Vec<String>>;
 #[test]
 fn same_functions() {
     let (c, rust) = (c_functions(), rust_functions());
-    assert_eq!(c.len(), 18);
+    assert_eq!(c.len(), 20);
     assert_eq!(rust, c);
     assert_eq!(exported_functions(), c);
 }
@@ -25,7 +26,7 @@ fn same_functions() {
 #[test]
 fn same_sizes() {
     let c = c_sizes();
-    assert_eq!(c.len(), 20);
+    assert_eq!(c.len(), 21);
     let (gcm, ctrmac) = (Combo::SivGcm, Combo::SivCtrmac);
     for (name, size) in [
         ("KEY_SIZE", KEY_LEN),
@@ -33,6 +34,7 @@ fn same_sizes() {
         ("RAW_KEY_SIZE", RAW_KEY_LEN),
         ("LABEL_MAX", MAX_LABEL_LEN),
         ("VAULT_SIZE", VAULT_LEN),
+        ("READER_KEYS_SIZE", READER_KEYS_LEN),
         ("SIV_GCM_NONCE_SIZE", gcm.nonce_len()),
         ("SIV_GCM_HEADER_SIZE", gcm.header_len()),
         ("SIV_GCM_CHUNK_OVERHEAD", gcm.chunk_overhead()),
@@ -50,6 +52,32 @@ fn same_sizes() {
         ("FULL_NAME_MAX", MAX_FULL_LEN),
     ] {
         assert_eq!(c[name], size, "{name}");
+    }
+}
+
+/// A reader of C is its file and its keys, and the macro passes them as both
+/// functions take them.
+#[test]
+fn same_reader() {
+    let code = without_comments(HEADER);
+    let members = between(&code, "struct skrapnefja_reader {", "}").trim();
+    let members = members.split_terminator(';').map(str::trim);
+    assert!(members.eq([
+        "const uint8_t *file",
+        "size_t file_len",
+        "uint8_t keys[SKRAPNEFJA_READER_KEYS_SIZE]",
+    ]));
+    assert_eq!(
+        between(&code, "#define SKRAPNEFJA_READER(reader) ", "\n"),
+        "(reader).file, (reader).file_len, (reader).keys, sizeof (reader).keys"
+    );
+    let functions = c_functions();
+    for (taken, keys) in [
+        (&functions["open_reader"][2..6], "keys: *mut u8"),
+        (&functions["reader_read"][..4], "keys: *const u8"),
+    ] {
+        let file = ["file: *const u8", "file_len: usize"];
+        assert_eq!(taken, [&file[..], &[keys, "keys_len: usize"]].concat());
     }
 }
 
@@ -95,11 +123,16 @@ fn same_rows() {
 /// The constants of an enumeration, each with its number.
 fn c_enum(name: &str) -> Vec<String> {
     let code = without_comments(HEADER);
-    let start = format!("enum skrapnefja_{name} {{");
-    let (_, constants) = code.split_once(&start).expect("the enumeration");
-    let (constants, _) = constants.split_once('}').expect("an end");
+    let constants = between(&code, &format!("enum skrapnefja_{name} {{"), "}");
     let constants = constants.split(',').map(str::trim);
     constants.map(String::from).collect()
+}
+
+/// The text behind the first `start`, up to the next `end`.
+fn between<'a>(text: &'a str, start: &str, end: &str) -> &'a str {
+    let (_, rest) = text.split_once(start).expect("a start");
+    let (between, _) = rest.split_once(end).expect("an end");
+    between
 }
 
 /// As they stand in C.

@@ -1,4 +1,4 @@
--- The ends of a read under the MAC master key and a header's nonce and content key, and how it is the range read, in either combo.
+-- How a read under the MAC master key and a header's nonce and content key is the range read, in either combo.
 -- Assumes nothing.
 use Prim.Native.Nat.{ℕ, _+_, _/_, _≤_, _<_}
 use mathlib.Core.Path.{_≡_, sym}
@@ -21,18 +21,7 @@ use Rattle.vault.specs.declared.record.Combo.{Combo}
 use Rattle.vault.specs.declared.record.Combo.the-variants.{SivGcm, SivCtrmac}
 use Rattle.vault.specs.Vault.{sizesOf, codecWith}
 use Rattle.file_parts.specs.Under.{plainUnder, badUnder}
-use Rattle.file_read.specs.Under.{readUnder}
-
-module _ (c : Combo) (mac n k f : List ℕ) (from count : ℕ) (out : List ℕ) where
-  pub under-bad : badUnder c mac n k f from count < from / chunkSize + covering from count
-      → readUnder c mac n k f from count out ≡ ended (refusedAt 10 (badUnder c mac n k f from count)) out
-  unfolding readUnder answer
-  under-bad b = rw (lt-ltb (badUnder c mac n k f from count) (from / chunkSize + covering from count) b)
-
-  pub under-good : from / chunkSize + covering from count ≤ badUnder c mac n k f from count
-      → readUnder c mac n k f from count out ≡ ended (done (count ∷ [])) (filled (drop from (allParts (sizesOf c) (plainUnder c (aes 8 k)) f)) count out)
-  unfolding readUnder answer
-  under-good b = rw (le-ltb (badUnder c mac n k f from count) (from / chunkSize + covering from count) b)
+use Rattle.file_range.specs.Under.{readUnder}
 
 -- where no row before 9 applies: row 9 itself; and where it does not apply, reading a range is reading under the nonce and the content key of the
 -- header, whose reserved bytes do not matter

@@ -1,55 +1,19 @@
-// A range read once its sizes are known to fit: the header, every covering tag or MAC, and only then the cleartext.
-use crate::range::write_range;
+// A range read once its sizes are known to fit: the header, and then what is read under its content key.
 use aes::round_table::table;
 use answer::Answer;
 use answer::Refusal;
-use file_parts::chunks::end_chunk;
-use file_parts::chunks::lowest_bad;
 use file_parts::header::open_head;
-use gcm::key::prepare;
+use file_range::under::read_under;
 use vault::record::Combo;
-use vault::sizes::sizes_of;
 ghost use mathlib.Core.Path.{_≡_};
 ghost use mathlib.Core.Bool.{true};
 ghost use Prim.Native.Nat.{_+_, _≤_};
-ghost use lib.ListN.{length, take};
+ghost use lib.ListN.{length};
 ghost use Rattle.octets.specs.Rows.{ended};
-ghost use Rattle.aes_spec.specs.RoundTable.{roundTable};
-ghost use Rattle.frame.specs.Layout.{fileLength, clearLength, rightLength};
+ghost use Rattle.frame.specs.Layout.{clearLength, rightLength};
 ghost use Rattle.frame.specs.Frame.{readRange};
 ghost use Rattle.vault.specs.Vault.{sizesOf, codecWith};
 ghost use Rattle.answer.specs.Meaning.{meaning};
-ghost use Rattle.file_read.specs.Under.{readUnder};
-
-// Reads the range of a file of n bytes of cleartext under its content key and the MAC master key.
-fn read_under(
-    combo: Combo,
-    t: &[u32; 256],
-    key: &[u8],
-    mac: &[u8],
-    file: &[u8],
-    n: usize,
-    from: usize,
-    count: usize,
-    out: &mut [u8],
-) -> Answer
-    requires { ⌜ now t ≡ roundTable ⌝ }
-    requires { ⌜ (length (now key) ≡ 32) × (length (now file) ≡ fileLength (sizesOf combo) n) × (from + count ≤ n) × (count ≤ length (now out)) ⌝ }
-    ensures { λ r. ⌜ ended (meaning r) (now (out .exit)) ≡ readUnder combo (now (mac .entry)) (take (sizesOf combo .nonce) (now (file .entry))) (now (key .entry)) (now (file .entry)) from count (now (out .entry)) ⌝ }
-{
-    let mut w = [0u32; 60];
-    let mut m = [0u64; 32];
-    prepare(t, key, &mut w, &mut m);
-    let first = from / 32768;
-    let e = end_chunk(from, count);
-    let s = sizes_of(combo).nonce;
-    let i = lowest_bad(combo, t, &w, &m, mac, &file[..s], file, n, first, e);
-    if i < e {
-        return Answer::Refused(Refusal::Chunk(i as u64));
-    }
-    write_range(combo, t, &w, mac, file, n, from, count, out);
-    Answer::Done(count)
-}
 
 // Reads a range that lies inside, into a buffer with room.
 pub fn read_inside(

@@ -41,8 +41,8 @@ fn known(n: u32) -> bool
     n == 2
 }
 
-// The combo of a known number.
-fn combo_of(n: u32) -> Combo
+// The combo of a known number; SIV_CTRMAC for any other.
+pub fn combo_of(n: u32) -> Combo
     ensures { λ r. ⌜ r ≡ comboOf n ⌝ }
 {
     if n == 1 {

@@ -7,6 +7,7 @@ use content::chunk::write_chunk;
 use content::header::write_header;
 use file_read::open_file;
 use file_read::read_range;
+use file_reader::twice::read_twice;
 use file_write::write_file;
 use vault::record::Combo;
 use vault::record::Vault;
@@ -63,7 +64,7 @@ fn wrapped_counter(v: Vault, content_key: &[u8], header_nonce: &[u8]) {
     print(&chunk);
 }
 
-// A file of one chunk, what it opens to, and its last five bytes.
+// A file of one chunk, what it opens to, its last five bytes, and these and its first five through one reader.
 fn file(v: Vault, content_key: &[u8], header_nonce: &[u8]) {
     let nonce = b"\xb0\xb1\xb2\xb3\xb4\xb5\xb6\xb7\xb8\xb9\xba\xbb\xbc\xbd\xbe\xbf";
     let text = b"hello world";
@@ -76,6 +77,11 @@ fn file(v: Vault, content_key: &[u8], header_nonce: &[u8]) {
     let mut part = [0u8; 5];
     read_range(v, &file, 6, 5, &mut part);
     print(&part);
+    let mut last = [0u8; 5];
+    let mut first = [0u8; 5];
+    read_twice(v, &file, 6, 5, &mut last, 0, 5, &mut first);
+    print(&last);
+    print(&first);
 }
 
 // The values under inputs that all differ.

@@ -9,6 +9,7 @@ use content::header::open_header;
 use content::header::write_header;
 use file_read::open_file;
 use file_read::read_range;
+use file_reader::twice::read_twice;
 use file_write::write_file;
 use key_wrap::unwrap_key;
 use key_wrap::wrap_key;
@@ -213,7 +214,7 @@ fn stock_chunk() {
     print(&chunk);
 }
 
-// The file of that header and that chunk, what it opens to, and its last five bytes.
+// The file of that header and that chunk, what it opens to, its last five bytes, and these and its first five through one reader.
 fn stock_file() {
     let zeros = [0u8; 32];
     let nonce = [0u8; 12];
@@ -228,6 +229,11 @@ fn stock_file() {
     let mut part = [0u8; 5];
     read_range(v, &file, 6, 5, &mut part);
     print(&part);
+    let mut last = [0u8; 5];
+    let mut first = [0u8; 5];
+    read_twice(v, &file, 6, 5, &mut last, 0, 5, &mut first);
+    print(&last);
+    print(&first);
 }
 
 // The stock program's path of the root directory.

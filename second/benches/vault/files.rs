@@ -1,12 +1,12 @@
-//! Whole files, ranges of them and mends, in each combo.
+//! Whole files, ranges of them, readers and mends, in each combo.
 
 use crate::inputs::{places, Cleartext, Vaults, CONTENT_KEY};
-use crate::mends;
 use crate::time::both;
+use crate::{mends, readers};
 use second::vault::Combo;
 
-const RANGES: usize = 1000;
-const RANGE_LEN: usize = 200;
+pub const RANGES: usize = 1000;
+pub const RANGE_LEN: usize = 200;
 
 pub fn run() {
     for (combo, name) in [(Combo::SivGcm, "SIV_GCM"), (Combo::SivCtrmac, "SIV_CTRMAC")] {
@@ -16,6 +16,7 @@ pub fn run() {
         write(name, &vaults, &cleartext, file.len());
         open(name, &vaults, &file, cleartext.bytes.len());
         read_ranges(name, &vaults, &file);
+        readers::run(combo, name, &vaults, &file);
         mends::run(combo, name, &vaults, &cleartext, &file);
     }
 }

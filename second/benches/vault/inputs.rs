@@ -2,7 +2,7 @@
 
 use crate::random::Random;
 use crate::text::random_character;
-use second::vault::{Combo, CHUNK_LEN, MAX_CLEARTEXT_LEN};
+use second::vault::{make_vault, Combo, CHUNK_LEN, MAX_CLEARTEXT_LEN, VAULT_LEN};
 use std::ops::RangeInclusive;
 
 pub const ENC: [u8; 32] = [0x55; 32];
@@ -35,6 +35,14 @@ impl Vaults {
             second: second::vault::Vault::new(&ENC, &MAC, combo, THRESHOLD).expect("two keys"),
         }
     }
+}
+
+/// The same vault as bytes.
+pub fn vault_bytes(combo: Combo) -> [u8; VAULT_LEN] {
+    let mut bytes = [0; VAULT_LEN];
+    let made = make_vault(&ENC, &MAC, combo.number().into(), THRESHOLD, &mut bytes);
+    made.expect("two keys");
+    bytes
 }
 
 /// What a file of the longest length is made of.

@@ -9,9 +9,11 @@ mod long_names;
 mod mends;
 mod names;
 mod parts;
+mod readers;
 #[path = "../../tests/common"]
 mod common {
     pub mod labels;
+    pub mod readers;
 }
 #[expect(dead_code, reason = "only what files are made by is timed by itself")]
 #[path = "../../tests/common/primitives.rs"]
@@ -23,6 +25,7 @@ mod stack {
     pub mod calls;
     pub mod labels;
     pub mod measure;
+    pub mod readers;
 }
 #[expect(dead_code, reason = "names are timed in one alphabet each")]
 #[path = "../../tests/common/text.rs"]

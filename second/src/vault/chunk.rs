@@ -55,7 +55,7 @@ impl Vault {
         content_key: &[u8],
         header_nonce: &'a [u8],
     ) -> Result<ChunkCipher<'a>, Refusal> {
-        let cipher = Cipher::new(self, sized(content_key)?);
+        let cipher = Cipher::new(&self.keys(sized(content_key)?));
         self.check_nonce(header_nonce)?;
         Ok(ChunkCipher::new(cipher, header_nonce))
     }

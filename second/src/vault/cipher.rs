@@ -1,7 +1,7 @@
 //! What the combos do to headers and chunks: each is stored as a nonce, the
 //! ciphertext and a tag.
 
-use super::{Combo, Vault};
+use super::keys::Keys;
 use crate::aes::KEY_LEN;
 use crate::ctr_hmac::{self, CtrHmac};
 use crate::gcm::{self, Aes256Gcm};
@@ -13,11 +13,10 @@ pub enum Cipher {
 }
 
 impl Cipher {
-    /// Headers are under the encryption master key, chunks under a content key.
-    pub fn new(vault: &Vault, key: &[u8; KEY_LEN]) -> Self {
-        match vault.combo {
-            Combo::SivGcm => Cipher::Gcm(Aes256Gcm::new(key)),
-            Combo::SivCtrmac => Cipher::CtrHmac(CtrHmac::new(key, &vault.mac)),
+    pub fn new(keys: &Keys) -> Self {
+        match keys {
+            Keys::SivGcm { key } => Cipher::Gcm(Aes256Gcm::new(key)),
+            Keys::SivCtrmac { key, mac } => Cipher::CtrHmac(CtrHmac::new(key, mac)),
         }
     }
 

@@ -3,9 +3,9 @@
 use super::chunk::ChunkCipher;
 use super::lengths::CHUNK_LEN;
 use super::nonces::all_differ;
+use super::read::read;
 use super::sizes::{room, sized};
-use super::{header, range};
-use super::{Refusal, Vault};
+use super::{header, Refusal, Vault};
 
 impl Vault {
     /// The chunk nonces are one after the other.
@@ -52,23 +52,9 @@ impl Vault {
         count: u64,
         out: &mut [u8],
     ) -> Result<usize, Refusal> {
-        let length = self.cleartext_length(file.len() as u64)?;
-        let range = range::inside(from, count, length)?;
-        room(out, range.len())?;
-
-        let (header, chunks) = file.split_at(self.combo.header_len());
-        let cipher = self.chunk_cipher_of(header)?;
-        let chunks = chunks.chunks(self.combo.stored_chunk_len());
-        for (number, chunk, _) in range::covering(self.combo, chunks.clone(), range.clone()) {
-            cipher.verify(number, chunk)?;
-        }
-        let mut rest = &mut out[..range.len()];
-        for (_, chunk, part) in range::covering(self.combo, chunks, range.clone()) {
-            let (place, later) = rest.split_at_mut(part.len());
-            cipher.decrypt_part(chunk, part.start, place);
-            rest = later;
-        }
-        Ok(range.len())
+        read(self.combo, file, from, count, out, |header| {
+            self.chunk_cipher_of(header)
+        })
     }
 }
 
@@ -157,7 +143,7 @@ mod tests {
             assert_eq!(written, Err(Refusal::RepeatedNonce));
             assert_eq!(out, vec![7; file.len()]);
 
-            let cipher = ChunkCipher::new(Cipher::new(&vault, &CONTENT_KEY), &nonce);
+            let cipher = ChunkCipher::new(Cipher::new(&vault.keys(&CONTENT_KEY)), &nonce);
             let chunks = &mut file[vault.combo.header_len()..];
             let (first, last) = chunks.split_at_mut(vault.combo.stored_chunk_len());
             cipher.seal(1, &first[..nonce.len()], &cleartext[CHUNK_LEN..], last);

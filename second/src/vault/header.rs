@@ -54,7 +54,7 @@ impl Vault {
     }
 
     pub(super) fn header_cipher(&self) -> Cipher {
-        Cipher::new(self, &self.enc)
+        Cipher::new(&self.keys(&self.enc))
     }
 }
 

@@ -1,6 +1,6 @@
 //! Lengths of files and of their cleartext (row 4).
 
-use super::{Refusal, Vault};
+use super::{Combo, Refusal, Vault};
 
 /// The cleartext in every chunk but the last, which may have less.
 pub const CHUNK_LEN: usize = 32_768;
@@ -19,10 +19,17 @@ impl Vault {
 
     /// The length of the cleartext of a file of this length.
     pub fn cleartext_length(&self, file_length: u64) -> Result<u64, Refusal> {
-        let chunks = file_length.checked_sub(self.combo.header_len() as u64);
+        self.combo.cleartext_length(file_length)
+    }
+}
+
+impl Combo {
+    /// The same of a file of this combo.
+    pub(super) fn cleartext_length(self, file_length: u64) -> Result<u64, Refusal> {
+        let chunks = file_length.checked_sub(self.header_len() as u64);
         let chunks = chunks.ok_or(Refusal::Length)?;
-        let stored_chunk = self.combo.stored_chunk_len() as u64;
-        let overhead = self.combo.overhead() as u64;
+        let stored_chunk = self.stored_chunk_len() as u64;
+        let overhead = self.overhead() as u64;
         let (whole, rest) = (chunks / stored_chunk, chunks % stored_chunk);
         Refusal::Length.unless(rest == 0 || rest > overhead)?;
         let length = whole * CHUNK_LEN as u64 + rest.saturating_sub(overhead);
@@ -34,7 +41,6 @@ impl Vault {
 #[cfg(test)]
 mod tests {
     use super::super::samples::vault;
-    use super::super::Combo;
     use super::*;
 
     #[test]

@@ -4,14 +4,15 @@
 #[derive(Clone, Copy, Debug, PartialEq, Eq)]
 pub enum Refusal {
     /// A key is not 32 bytes, a raw key not 64, a nonce is not as long as the
-    /// combo's, there is not one of these for each chunk, or a vault is not 66
-    /// bytes.
+    /// combo's, there is not one of these for each chunk, a vault is not 66
+    /// bytes, or the keys of a reader are not 65.
     KeyOrNonceSize,
     /// The directory ID has more than 36 bytes, or one of 128 or more.
     DirectoryId,
     /// The name has no bytes or more than 1,020, or is not proper text.
     Name,
-    /// No file, header, chunk or wrapped key has this length.
+    /// No file, header, chunk or wrapped key has this length, or a reader is that
+    /// of no bytes.
     Length,
     /// The text form of the name is broken, or longer than the threshold for a
     /// plain one: at this place, it is no longer the start of one that is right,

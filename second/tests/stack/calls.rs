@@ -1,16 +1,16 @@
-//! Each call of the library, in each combo, with an input that succeeds; names
-//! and labels also with some that are refused.
+//! Each call of the library, in each combo, with an input that succeeds; names,
+//! labels and readers also with some that are refused.
 
-use super::labels;
 use super::measure::used;
+use super::{labels, readers};
 use skrapnefja::{
     unwrap_key, wrap_key, Combo, Label, Refusal, Vault, WrittenName, KEY_LEN, MAX_FULL_LEN,
     MAX_NAME_LEN, MAX_STORED_LEN, RAW_KEY_LEN, VAULT_LEN, WRAPPED_KEY_LEN,
 };
 
-const ENC: [u8; 32] = [1; 32];
-const MAC: [u8; 32] = [2; 32];
-const CONTENT_KEY: [u8; 32] = [3; 32];
+pub const ENC: [u8; 32] = [1; 32];
+pub const MAC: [u8; 32] = [2; 32];
+pub const CONTENT_KEY: [u8; 32] = [3; 32];
 pub const RAW_KEY: [u8; RAW_KEY_LEN] = [4; RAW_KEY_LEN];
 const ID: &[u8] = b"e9250eb8-078d-4fc0-8835-be92a313360c";
 
@@ -79,6 +79,7 @@ fn depths(combo: Combo) -> Vec<Depth> {
         header_depths(&vault, combo),
         chunk_depths(&vault, combo),
         file_depths(&vault, combo),
+        readers::depths(combo),
         name_depths(&vault),
         broken_name_depths(&vault),
         length_depths(&vault, combo),

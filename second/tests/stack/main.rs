@@ -4,9 +4,11 @@ mod calls;
 #[path = "../common"]
 mod common {
     pub mod labels;
+    pub mod readers;
 }
 mod labels;
 mod measure;
+mod readers;
 
 fn main() {
     calls::run();

@@ -16,6 +16,8 @@ pub enum Call {
     WriteFile,
     OpenFile,
     ReadRange,
+    OpenReader,
+    ReaderRead,
     Mend,
     WriteName,
     OpenName,
@@ -28,7 +30,7 @@ pub enum Call {
 }
 
 impl Call {
-    pub const ALL: [Call; 18] = [
+    pub const ALL: [Call; 20] = [
         Call::OpenLabel,
         Call::MakeVault,
         Call::WriteHeader,
@@ -38,6 +40,8 @@ impl Call {
         Call::WriteFile,
         Call::OpenFile,
         Call::ReadRange,
+        Call::OpenReader,
+        Call::ReaderRead,
         Call::Mend,
         Call::WriteName,
         Call::OpenName,
@@ -53,7 +57,7 @@ impl Call {
     pub fn takes_vault(self) -> bool {
         !matches!(
             self,
-            Call::OpenLabel | Call::MakeVault | Call::WrapKey | Call::UnwrapKey
+            Call::OpenLabel | Call::MakeVault | Call::ReaderRead | Call::WrapKey | Call::UnwrapKey
         )
     }
 
@@ -82,6 +86,8 @@ impl Call {
             Call::WriteFile => OF_WRITTEN_FILE,
             Call::OpenFile => &[VaultSize, Combo, Length, Room, Header, Chunk],
             Call::ReadRange => &[VaultSize, Combo, Length, Range, Room, Header, Chunk],
+            Call::OpenReader => &[VaultSize, Combo, Length, Room, Header],
+            Call::ReaderRead => &[VaultSize, Combo, NoReader, Length, Range, Room, Chunk],
             Call::Mend => OF_MEND,
             Call::WriteName => &[VaultSize, Threshold, Combo, DirectoryId, Name, Room],
             Call::OpenName => OF_OPENED_NAME,
@@ -148,7 +154,7 @@ const OF_OPENED_LONG_NAME: &[Fault] = &[
 ];
 
 /// Inputs, numbers and buffers are each in the order of the C boundary. The file
-/// that a mend changes is a buffer.
+/// that a mend changes is a buffer, and so are the keys of a reader to make.
 #[derive(Clone, Debug)]
 pub struct Case {
     pub call: Call,
@@ -158,12 +164,23 @@ pub struct Case {
 }
 
 impl Case {
-    /// The combo that is lent, in a vault or as a number.
+    /// The combo that is lent, in a vault, in the keys of a reader or as a number.
     pub fn combo(&self) -> Option<Combo> {
         match self.call {
             Call::MakeVault => Combo::of_number(self.vault_numbers()[0]).ok(),
             Call::OpenLabel | Call::WrapKey | Call::UnwrapKey => None,
+            Call::ReaderRead => format::combo_of_keys(&self.inputs[1]),
             _ => format::combo_of(&self.inputs[0]),
+        }
+    }
+
+    /// The vault that is lent, or the keys of a reader. Both have the number of
+    /// the combo at one place.
+    pub fn record_mut(&mut self) -> Option<&mut Vec<u8>> {
+        match self.call {
+            Call::ReaderRead => self.inputs.get_mut(1),
+            call if call.takes_vault() => self.inputs.get_mut(0),
+            _ => None,
         }
     }
 
@@ -171,6 +188,7 @@ impl Case {
     pub fn file(&self) -> &[u8] {
         match self.call {
             Call::Mend => &self.buffers[0],
+            Call::ReaderRead => &self.inputs[0],
             _ => &self.inputs[1],
         }
     }
@@ -178,6 +196,7 @@ impl Case {
     pub fn file_mut(&mut self) -> &mut Vec<u8> {
         match self.call {
             Call::Mend => &mut self.buffers[0],
+            Call::ReaderRead => &mut self.inputs[0],
             _ => &mut self.inputs[1],
         }
     }
@@ -185,7 +204,7 @@ impl Case {
     /// The start and the length of the range that is opened, read or mended.
     pub fn range(&self) -> (u64, u64) {
         match (self.call, &self.numbers[..]) {
-            (Call::ReadRange, &[from, count]) => (from, count),
+            (Call::ReadRange | Call::ReaderRead, &[from, count]) => (from, count),
             (Call::Mend, &[from]) => (from, self.inputs[1].len() as u64),
             _ => (0, make::cleartext_len(self) as u64),
         }
@@ -218,7 +237,8 @@ impl Case {
 pub struct End {
     /// 0 for done.
     pub row: u32,
-    /// The length written, or the combo of a label.
+    /// The length written, that of the cleartext of a reader, or the combo of a
+    /// label.
     pub length: u64,
     /// The length of the full name, the header's reserved bytes as a number, or
     /// the threshold of a label.

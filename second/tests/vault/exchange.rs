@@ -2,7 +2,7 @@
 
 use crate::case::{Call, Case, End};
 use crate::compare::Compare;
-use crate::format::{longest_plain, LONGEST_NAME};
+use crate::format::{longest_plain, LONGEST_NAME, READER_KEYS};
 use crate::part::Part;
 use crate::part::Run::{Each, Once};
 use crate::{library, make, predict};
@@ -11,6 +11,7 @@ use second::vault::Combo;
 pub const PARTS: &[Part] = &[
     ("exchange: vaults and files", Each(vaults_and_files)),
     ("exchange: headers and chunks", Each(headers_and_chunks)),
+    ("exchange: readers", Each(readers)),
     ("exchange: mends", Each(mends)),
     ("exchange: names", Each(names)),
     ("exchange: keys", Once(keys)),
@@ -72,6 +73,39 @@ fn vaults_and_files(compare: &mut Compare, combo: Combo) {
             let file = written(compare, writer, &write).swap_remove(0);
             let inputs = vec![vault, file];
             opens(compare, reader, Call::OpenFile, inputs, &write.inputs[4]);
+        }
+    }
+}
+
+/// The writer makes the reader of its file, and the other program reads through
+/// it.
+fn readers(compare: &mut Compare, combo: Combo) {
+    for len in [0, 1, 100, 32_767, 32_768, 32_769, 65_536, 100_000] {
+        for (writer, reader) in WAYS {
+            let write = make::write_file(&mut compare.random, combo, len);
+            let file = written(compare, writer, &write).swap_remove(0);
+            let open = Case {
+                call: Call::OpenReader,
+                inputs: vec![write.inputs[0].clone(), file.clone()],
+                numbers: vec![],
+                buffers: vec![vec![0xa5; READER_KEYS]],
+            };
+            let made = writer(&open);
+            assert_eq!((made.row, made.length), (0, len as u64));
+            compare.tally.count(&open, &made);
+
+            let (from, count) = (len / 3, len / 2);
+            let read = Case {
+                call: Call::ReaderRead,
+                inputs: [vec![file], made.buffers].concat(),
+                numbers: [from, count].map(|number| number as u64).to_vec(),
+                buffers: vec![vec![0xa5; count]],
+            };
+            let end = reader(&read);
+            assert_eq!((end.row, end.length), (0, count as u64));
+            let part = &write.inputs[4][from..from + count];
+            assert!(end.buffers[0] == part, "another cleartext");
+            compare.tally.count(&read, &end);
         }
     }
 }

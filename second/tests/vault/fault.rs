@@ -19,12 +19,14 @@ pub use scrambles::scramble;
 
 /// What can be wrong with what is lent, by the rows of the table. Row 1 is two
 /// of them: the size of a vault is looked at before its threshold and its combo,
-/// and every other size after them.
+/// and every other size after them. The keys of a reader are looked at like a
+/// vault, and can be those of no bytes.
 #[derive(Clone, Copy, Debug, PartialEq, Eq)]
 pub enum Fault {
     VaultSize,
     Threshold,
     Combo,
+    NoReader,
     KeyOrNonceSize,
     DirectoryId,
     Name,
@@ -50,7 +52,7 @@ impl Fault {
             Fault::VaultSize | Fault::KeyOrNonceSize => 1,
             Fault::DirectoryId => 2,
             Fault::Name => 3,
-            Fault::Length => 4,
+            Fault::NoReader | Fault::Length => 4,
             Fault::Text => 5,
             Fault::Range => 6,
             Fault::Room => 7,
@@ -78,6 +80,7 @@ pub fn spoil(case: &mut Case, fault: Fault, random: &mut Random) -> bool {
         Fault::VaultSize => vaults::size(case, random),
         Fault::Combo => vaults::combo(case, random),
         Fault::Threshold => vaults::threshold(case, random),
+        Fault::NoReader => vaults::no_reader(case, random),
         Fault::KeyOrNonceSize => keys::key_or_nonce_size(case, random),
         Fault::DirectoryId => names::directory_id(case, random),
         Fault::Name => names::name(case, random),

@@ -8,6 +8,8 @@ pub const VAULT: usize = 66;
 pub const COMBO_PLACE: usize = 64;
 pub const THRESHOLD_PLACE: usize = 65;
 pub const THRESHOLDS: RangeInclusive<u8> = 36..=220;
+/// The keys of a reader, which have the number of the combo where a vault has it.
+pub const READER_KEYS: usize = 65;
 pub const RAW_KEY: usize = 64;
 pub const LONGEST_LABEL: usize = 4096;
 pub const LONGEST_CLEARTEXT: usize = 16_777_216;
@@ -73,6 +75,15 @@ pub fn combo_of(vault: &[u8]) -> Option<Combo> {
     match vault {
         [.., 1, _] if vault.len() == VAULT => Some(Combo::SivGcm),
         [.., 2, _] if vault.len() == VAULT => Some(Combo::SivCtrmac),
+        _ => None,
+    }
+}
+
+/// The combo of bytes that are the keys of a reader, and not those of no bytes.
+pub fn combo_of_keys(keys: &[u8]) -> Option<Combo> {
+    match keys {
+        [.., 1] if keys.len() == READER_KEYS => Some(Combo::SivGcm),
+        [.., 2] if keys.len() == READER_KEYS => Some(Combo::SivCtrmac),
         _ => None,
     }
 }

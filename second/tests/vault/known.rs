@@ -2,14 +2,31 @@
 
 use crate::case::{Call, Case};
 use crate::compare::Compare;
+use crate::format::READER_KEYS;
+use crate::make::reader_keys;
 use second::vault::Combo;
 
 /// The header of a vault, a nonce and a content key.
 pub fn header(compare: &mut Compare, inputs: [Vec<u8>; 3], header: Vec<u8>) {
     fills(compare, Call::WriteHeader, &inputs, &[], &[&header]);
     let [vault, _, content_key] = inputs;
+    let keys = reader_keys(&vault, &content_key);
     let inputs = [vault, header];
     fills(compare, Call::OpenHeader, &inputs, &[], &[&content_key]);
+    reader(compare, inputs, keys);
+}
+
+/// The keys of the reader of a vault and a header alone, which is the file of an
+/// empty cleartext.
+fn reader(compare: &mut Compare, inputs: [Vec<u8>; 2], keys: Vec<u8>) {
+    let end = compare.end(&Case {
+        call: Call::OpenReader,
+        inputs: inputs.to_vec(),
+        numbers: vec![],
+        buffers: vec![vec![0xa5; READER_KEYS]],
+    });
+    assert_eq!((end.row, end.length), (0, 0));
+    assert_eq!(end.buffers, [keys]);
 }
 
 /// The chunk of a vault, a content key, the header's nonce, its own, and a

@@ -1,6 +1,7 @@
 //! Calls of the static library.
 
 use crate::case::{Call, Case, End};
+use crate::common::readers::{open_reader, reader_read};
 use skrapnefja::call;
 
 /// Bytes before and after every slice that no call may change. The number is
@@ -83,6 +84,7 @@ fn run(case: &Case, lent: Lent) -> u32 {
         Call::OpenLabel => label(lent),
         Call::MakeVault | Call::WrapKey | Call::UnwrapKey => keys(case, lent),
         Call::FileLength | Call::CleartextLength => lengths(case, lent),
+        Call::OpenReader | Call::ReaderRead => readers(case, lent),
         _ => content(case, lent),
     }
 }
@@ -128,6 +130,17 @@ fn content(case: &Case, lent: Lent) -> u32 {
             }
             _ => panic!("not what {:?} takes", case.call),
         }
+    }
+}
+
+fn readers(case: &Case, lent: Lent) -> u32 {
+    let (length, at) = (lent.length, lent.at);
+    match (case.call, lent.inputs, &case.numbers[..], lent.buffers) {
+        (Call::OpenReader, [vault, file], [], [keys]) => open_reader(vault, file, keys, length),
+        (Call::ReaderRead, [file, keys], &[from, count], [out]) => {
+            reader_read(file, keys, from, count, out, length, at)
+        }
+        _ => panic!("not what {:?} takes", case.call),
     }
 }
 

@@ -15,6 +15,7 @@ mod common {
     pub mod fields;
     pub mod labels;
     pub mod random;
+    pub mod readers;
     pub mod text;
 }
 
@@ -34,6 +35,7 @@ mod known;
 mod labels;
 mod lengths;
 mod library;
+mod log;
 mod longest;
 mod make;
 mod mends;
@@ -47,6 +49,7 @@ mod predict;
 mod proper_text;
 mod random_calls;
 mod ranges;
+mod readers;
 mod stock_program;
 mod tally;
 mod texts;
@@ -101,6 +104,7 @@ fn main() -> ExitCode {
     let parts = [
         PARTS.concat(),
         mends::PARTS.concat(),
+        readers::PARTS.concat(),
         places::PARTS.concat(),
         labels::PARTS.concat(),
     ]

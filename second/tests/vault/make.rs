@@ -7,6 +7,7 @@ mod labels;
 mod mends;
 mod names;
 mod nonces;
+mod readers;
 mod sizes;
 mod vaults;
 
@@ -22,6 +23,7 @@ pub use labels::*;
 pub use mends::*;
 pub use names::*;
 pub use nonces::*;
+pub use readers::*;
 use sizes::{chunk_len, file_len, name_len, range};
 pub use vaults::*;
 
@@ -39,29 +41,32 @@ pub fn case(call: Call, random: &mut Random, combo: Combo) -> Case {
             let len = chunk_len(random);
             open_chunk(random, combo, len)
         }
-        Call::WriteFile => {
-            let len = file_len(random);
-            write_file(random, combo, len)
-        }
-        Call::OpenFile => {
-            let len = file_len(random);
-            open_file(random, combo, len)
-        }
-        Call::ReadRange => {
-            let len = file_len(random);
-            let (from, count) = range(random, len);
-            read_range(random, combo, len, from, count)
-        }
-        Call::Mend => {
-            let len = file_len(random);
-            let (from, count) = range(random, len);
-            mend(random, combo, len, from, count as usize)
-        }
+        Call::WriteFile | Call::OpenFile | Call::OpenReader => on_file(call, random, combo),
+        Call::ReadRange | Call::ReaderRead | Call::Mend => on_range(call, random, combo),
         Call::WriteName | Call::OpenName | Call::OpenLongName => on_name(call, random, combo),
         Call::DirPath => dir_path(random, combo),
         Call::FileLength | Call::CleartextLength => on_length(call, random, combo),
         Call::WrapKey => wrap_key(random),
         Call::UnwrapKey => unwrap_key(random),
+    }
+}
+
+fn on_file(call: Call, random: &mut Random, combo: Combo) -> Case {
+    let len = file_len(random);
+    match call {
+        Call::OpenFile => open_file(random, combo, len),
+        Call::OpenReader => open_reader(random, combo, len),
+        _ => write_file(random, combo, len),
+    }
+}
+
+fn on_range(call: Call, random: &mut Random, combo: Combo) -> Case {
+    let len = file_len(random);
+    let (from, count) = range(random, len);
+    match call {
+        Call::ReaderRead => reader_read(random, combo, len, from, count),
+        Call::Mend => mend(random, combo, len, from, count as usize),
+        _ => read_range(random, combo, len, from, count),
     }
 }
 

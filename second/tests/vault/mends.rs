@@ -14,12 +14,9 @@ mod series;
 mod strange;
 
 use crate::case::{Call, Case, End};
-use crate::common::random::Random;
 use crate::compare::Compare;
-use crate::format::sizes;
-use crate::make;
+use crate::log::Log;
 use crate::part::Part;
-use second::vault::{Combo, CHUNK_LEN};
 use std::ops::Range;
 
 pub const PARTS: [&[Part]; 12] = [
@@ -36,57 +33,6 @@ pub const PARTS: [&[Part]; 12] = [
     counters::PARTS,
     known::PARTS,
 ];
-
-/// A file, with the call that wrote it.
-struct Log {
-    combo: Combo,
-    write: Case,
-    file: Vec<u8>,
-}
-
-impl Log {
-    fn new(random: &mut Random, combo: Combo, len: usize) -> Self {
-        Log::of(combo, make::write_file(random, combo, len))
-    }
-
-    /// What this call writes, by `second`.
-    fn of(combo: Combo, write: Case) -> Self {
-        let file = make::answer(&write);
-        Log { combo, write, file }
-    }
-
-    fn cleartext(&self) -> &[u8] {
-        &self.write.inputs[4]
-    }
-
-    /// The call that mends a range of it, with random bytes and fresh nonces.
-    fn mend(&self, random: &mut Random, from: usize, count: usize) -> Case {
-        let vault = &self.write.inputs[0];
-        make::mend_file(random, vault, &self.file, from as u64, count)
-    }
-
-    /// The log as it is written with the bytes and the nonces of a mend.
-    fn mended(&self, mend: &Case) -> Self {
-        let mut write = self.write.clone();
-        let (from, [_, new, nonces]) = (mend.numbers[0] as usize, &mend.inputs[..]) else {
-            panic!("not what mends a file");
-        };
-        let first = from / CHUNK_LEN * sizes(self.combo).nonce;
-        write.inputs[3][first..][..nonces.len()].copy_from_slice(nonces);
-        write.inputs[4][from..][..new.len()].copy_from_slice(new);
-        Log::of(self.combo, write)
-    }
-
-    /// Where the chunks stand that a mend covers.
-    fn covering(&self, mend: &Case) -> Range<usize> {
-        let sizes = sizes(self.combo);
-        let (from, count) = mend.range();
-        let first = from as usize / CHUNK_LEN;
-        let chunks = make::covered(from, count as usize);
-        let [start, end] = [first, first + chunks].map(|i| sizes.header + i * sizes.chunk);
-        start.min(self.file.len())..end.min(self.file.len())
-    }
-}
 
 /// Fails unless the mend is done: the chunks that it covers are then those of the
 /// log as it is written with the new bytes and nonces, and all else in the file
@@ -140,7 +86,7 @@ fn reads(compare: &mut Compare, log: &Log, range: Range<usize>) {
 fn opening(log: &Log, call: Call, numbers: Vec<u64>) -> Case {
     Case {
         call,
-        inputs: vec![log.write.inputs[0].clone(), log.file.clone()],
+        inputs: vec![log.vault().to_vec(), log.file.clone()],
         numbers,
         buffers: vec![vec![0xa5; log.cleartext().len()]],
     }

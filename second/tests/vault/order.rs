@@ -1,7 +1,7 @@
 //! The first fault that a call looks for wins, for each two faults of each
 //! call. That is the lowest row, but that rows 18 and 17 of a lent vault, in this
-//! order, come before all but the vault's size, and that an opener of names
-//! tries row 3 last.
+//! order, come before all but the vault's size, so does row 17 of a reader, and
+//! that an opener of names tries row 3 last.
 
 use crate::case::Call;
 use crate::compare::Compare;

@@ -49,6 +49,12 @@ fn files(compare: &mut Compare, combo: Combo) {
         open.call = Call::ReadRange;
         open.numbers = vec![0, 0];
         assert_eq!(compare.row(&open), row);
+        let keep = Case {
+            call: Call::OpenReader,
+            numbers: vec![],
+            ..open.clone()
+        };
+        assert_eq!(compare.row(&keep), row);
         let mend = make::mend_file(&mut compare.random, &open.inputs[0], &open.inputs[1], 0, 0);
         assert_eq!(compare.row(&mend), row);
         rows[usize::from(row == 9)] += 1;

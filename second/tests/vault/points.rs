@@ -104,23 +104,30 @@ fn calls_in(random: &mut Random, combo: Combo, id: &[u8]) -> [Case; 5] {
 }
 
 /// Row 4, whatever keys of 32 bytes: a file is cut or made longer, and is opened,
-/// read and mended with its own keys and with others.
+/// read, kept open and mended with its own keys and with others.
 fn refused_file_lengths(compare: &mut Compare, combo: Combo) {
-    let open = make::open_file(&mut compare.random, combo, 40_000);
-    let read = make::read_range(&mut compare.random, combo, 40_000, 0, 1);
-    let mend = make::mend(&mut compare.random, combo, 40_000, 0, 1);
+    let random = &mut compare.random;
+    let cases = [
+        make::open_file(random, combo, 40_000),
+        make::read_range(random, combo, 40_000, 0, 1),
+        make::open_reader(random, combo, 40_000),
+        make::reader_read(random, combo, 40_000, 0, 1),
+        make::mend(random, combo, 40_000, 0, 1),
+    ];
+    let vault = make::vault(random, combo);
     let lengths = match combo {
         Combo::SivGcm => [67, 69, 96, 32_865, 32_892, 16_791_621, 16_791_649],
         Combo::SivCtrmac => [87, 89, 136, 32_905, 32_952, 16_801_881, 16_801_929],
     };
     for length in lengths {
-        let case = with_length(Call::CleartextLength, &open.inputs[0], length as u64);
+        let case = with_length(Call::CleartextLength, &vault, length as u64);
         assert_eq!(compare.row(&case), 4);
-        for case in [&open, &read, &mend] {
+        for case in &cases {
             let mut case = case.clone();
             case.file_mut().resize(length, 0);
             assert_eq!(compare.row(&case), 4);
-            case.inputs[0] = make::vault(&mut compare.random, combo);
+            let record = case.record_mut().expect("a vault or a reader");
+            record[..64].copy_from_slice(&vault[..64]);
             assert_eq!(compare.row(&case), 4);
         }
     }
@@ -178,8 +185,11 @@ fn largest_count(compare: &mut Compare, combo: Combo) {
 fn range_is_refused(compare: &mut Compare, combo: Combo, from: u64, count: u64) {
     for len in CLEARTEXTS {
         let mut case = make::read_range(&mut compare.random, combo, len, 0, 0);
+        let mut through = make::reader_read(&mut compare.random, combo, len, 0, 0);
         case.numbers = vec![from, count];
+        through.numbers = vec![from, count];
         assert_eq!(compare.row(&case), 6);
+        assert_eq!(compare.row(&through), 6);
         // No more bytes can be lent than there is memory for.
         if count == 1 {
             let vault = &case.inputs[0];
@@ -189,26 +199,29 @@ fn range_is_refused(compare: &mut Compare, combo: Combo, from: u64, count: u64) 
     }
 }
 
-/// Success, length 0, and the header is checked.
+/// Success, length 0, and the header is checked, but not through a reader.
 fn empty_range_at_end(compare: &mut Compare, combo: Combo) {
     for len in CLEARTEXTS {
         let read = make::read_range(&mut compare.random, combo, len, len as u64, 0);
+        let through = make::reader_read(&mut compare.random, combo, len, len as u64, 0);
         let mend = make::mend(&mut compare.random, combo, len, len as u64, 0);
-        for mut case in [read, mend] {
+        for (mut case, later) in [(read, 9), (through, 0), (mend, 9)] {
             let End { row, length, .. } = compare.end(&case);
             assert_eq!((row, length), (0, 0));
             case.file_mut()[sizes(combo).header - 1] ^= 1;
-            assert_eq!(compare.row(&case), 9);
+            assert_eq!(compare.row(&case), later);
         }
     }
 }
 
-/// Row 1: a vault or a content key of a byte less or more.
+/// Row 1: a vault, a content key or the keys of a reader of a byte less or more.
 fn key_before_length(compare: &mut Compare, combo: Combo) {
     let random = &mut compare.random;
     let mut cases = [
         make::open_file(random, combo, 10),
         make::read_range(random, combo, 10, 0, 1),
+        make::open_reader(random, combo, 10),
+        make::reader_read(random, combo, 10, 0, 1),
         make::mend(random, combo, 10, 0, 1),
         make::open_chunk(random, combo, 10),
         make::write_chunk(random, combo, 10),
@@ -217,15 +230,16 @@ fn key_before_length(compare: &mut Compare, combo: Combo) {
         let keys = match case.call {
             Call::OpenChunk | Call::WriteChunk => {
                 case.inputs.last_mut().expect("a chunk").clear();
-                2
+                0..2
             }
-            _ => {
+            call => {
                 case.file_mut().clear();
-                1
+                let place = usize::from(call == Call::ReaderRead);
+                place..place + 1
             }
         };
         assert_eq!(compare.row(case), 4);
-        for key in 0..keys {
+        for key in keys {
             let (mut shorter, mut longer) = (case.clone(), case.clone());
             shorter.inputs[key].pop();
             longer.inputs[key].push(0);

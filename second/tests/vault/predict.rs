@@ -1,12 +1,18 @@
 //! What a call must do, according to `second`.
 
 use crate::case::{Call, Case, End};
-use second::vault::{self, Refusal, Vault, WrittenName};
+use second::vault::{self, Reader, Refusal, Vault, WrittenName};
 
 pub fn end(case: &Case) -> End {
     let mut buffers = case.buffers.clone();
+    let answer = run(case, &mut buffers);
+    end_of(case, answer, buffers)
+}
+
+/// The end of a call that gave this answer.
+pub fn end_of(case: &Case, answer: Answer, buffers: Vec<Vec<u8>>) -> End {
     let [mut length, mut other, mut at] = case.old_results();
-    let row = match run(case, &mut buffers) {
+    let row = match answer {
         Ok((new_length, new_other)) => {
             length = new_length;
             other = new_other.unwrap_or(other);
@@ -37,7 +43,7 @@ fn place(refusal: Refusal) -> Option<u64> {
 }
 
 /// The length, and from a call that sets it the other number.
-type Answer = Result<(u64, Option<u64>), Refusal>;
+pub type Answer = Result<(u64, Option<u64>), Refusal>;
 
 fn run(case: &Case, buffers: &mut [Vec<u8>]) -> Answer {
     let length = match (case.call, &case.inputs[..], &case.numbers[..], buffers) {
@@ -48,6 +54,12 @@ fn run(case: &Case, buffers: &mut [Vec<u8>]) -> Answer {
         (Call::MakeVault, [enc, mac], [_, _], [out]) => {
             let [combo, threshold] = case.vault_numbers();
             vault::make_vault(enc, mac, combo, threshold, out)
+        }
+        (Call::OpenReader, [vault, file], [], [keys]) => {
+            return Ok((vault::open_reader(vault, file, keys)?, None));
+        }
+        (Call::ReaderRead, [file, keys], &[from, count], [out]) => {
+            Reader::from_bytes(file, keys)?.read(from, count, out)
         }
         (Call::WrapKey, [kek, key], [], [out]) => vault::wrap_key(kek, key, out),
         (Call::UnwrapKey, [kek, wrapped], [], [out]) => vault::unwrap_key(kek, wrapped, out),

@@ -103,12 +103,12 @@ fn random_case(call: Call, combo: Combo, random: &mut Random) -> Case {
         (Call::OpenName | Call::OpenLongName, 0 | 1) => scramble(&mut case, random),
         _ => {}
     }
-    if call.takes_vault() && random.below(20) == 0 {
+    if let Some(record) = case.record_mut().filter(|_| random.below(20) == 0) {
         let (place, byte) = match random.below(2) {
             0 => (COMBO_PLACE, random.below(4)),
             _ => (THRESHOLD_PLACE, random.below(256)),
         };
-        if let Some(old) = case.inputs[0].get_mut(place) {
+        if let Some(old) = record.get_mut(place) {
             *old = byte as u8;
         }
     }

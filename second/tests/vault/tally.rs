@@ -99,11 +99,11 @@ fn is_possible(call: Call, combo: Option<Combo>, column: usize) -> bool {
     }
 }
 
-/// Whether a fault that the call looks for can be the first: a vault that is
-/// none keeps it from all others, but that a threshold comes before the combo
-/// where one is lent, and behind it where one is made.
+/// Whether a fault that the call looks for can be the first: a vault or a reader
+/// that is none keeps it from all others, but that a threshold comes before the
+/// combo where one is lent, and behind it where one is made.
 fn is_found(call: Call, combo: Option<Combo>, fault: Fault) -> bool {
-    let of_vault = matches!(fault, Fault::VaultSize | Fault::Combo);
+    let of_vault = matches!(fault, Fault::VaultSize | Fault::Combo | Fault::NoReader);
     match (call, fault) {
         (Call::OpenLabel | Call::WrapKey | Call::UnwrapKey, _) => combo.is_none(),
         (Call::MakeVault, Fault::Threshold) => combo.is_some(),

@@ -75,6 +75,7 @@ fn each_call(compare: &mut Compare, combo: Combo) -> Vec<Case> {
             Call::WriteFile => make::write_file(random, combo, 100),
             Call::OpenFile => make::open_file(random, combo, 100),
             Call::ReadRange => make::read_range(random, combo, 100, 7, 80),
+            Call::OpenReader => make::open_reader(random, combo, 100),
             Call::Mend => make::mend(random, combo, 100, 7, 80),
             Call::WriteName => make::write_name(random, combo, 100),
             Call::OpenName => make::open_name(random, combo, 100),
@@ -126,6 +127,14 @@ fn goes_by(call: Call, combo: Combo) -> [bool; 2] {
     }
 }
 
+/// Whether the call opens the header of a file.
+fn opens_header(call: Call) -> bool {
+    matches!(
+        call,
+        Call::OpenHeader | Call::OpenFile | Call::ReadRange | Call::OpenReader | Call::Mend
+    )
+}
+
 /// A call that goes by a key writes or finds something else with another one.
 /// Only the tags of SIV_CTRMAC do not go by the encryption master key.
 fn bits(compare: &mut Compare, combo: Combo) {
@@ -142,11 +151,7 @@ fn bits(compare: &mut Compare, combo: Combo) {
                 _ if !goes_by_it => 0,
                 Call::OpenName | Call::OpenLongName => 12,
                 Call::OpenChunk => 10,
-                Call::OpenHeader | Call::OpenFile | Call::ReadRange | Call::Mend
-                    if bit >= 256 || combo == Combo::SivGcm =>
-                {
-                    9
-                }
+                call if opens_header(call) && (bit >= 256 || combo == Combo::SivGcm) => 9,
                 _ => 0,
             };
             assert_eq!(end.row, row, "{:?}, bit {bit}", case.call);

@@ -27,7 +27,7 @@ pub fn length(case: &mut Case, random: &mut Random) {
             case.inputs[4] = vec![7; LONGEST_CLEARTEXT + 1 + random.below(100)];
             resize(&mut case.inputs[3], 513 * sizes.nonce, random);
         }
-        Call::OpenFile | Call::ReadRange | Call::Mend => {
+        Call::OpenFile | Call::ReadRange | Call::OpenReader | Call::ReaderRead | Call::Mend => {
             file_length(case.file_mut(), &sizes, random);
         }
         Call::FileLength => case.numbers[0] = large(random, LONGEST_CLEARTEXT + 1),
@@ -43,9 +43,9 @@ pub fn length(case: &mut Case, random: &mut Random) {
     }
 }
 
-/// The sizes of the vault's combo.
+/// The sizes of the vault's combo, or of the reader's.
 fn own_sizes(case: &Case) -> Sizes {
-    sizes(case.combo().expect("a vault"))
+    sizes(case.combo().expect("a vault or a reader"))
 }
 
 /// Any length but the right one.
@@ -122,7 +122,7 @@ pub fn header(case: &mut Case, random: &mut Random) {
     flip(&mut case.file_mut()[..header], random);
 }
 
-/// Damages one covering chunk or more.
+/// Damages one covering chunk or more, or takes others for good ones.
 pub fn chunk(case: &mut Case, random: &mut Random) -> bool {
     if case.call == Call::OpenChunk {
         single_chunk(case, random);
@@ -131,6 +131,10 @@ pub fn chunk(case: &mut Case, random: &mut Random) -> bool {
     let (sizes, (from, count)) = (own_sizes(case), case.range());
     if count == 0 {
         return false;
+    }
+    if case.call == Call::ReaderRead && random.below(2) == 0 {
+        strange_reader(case, random);
+        return true;
     }
     let first = from as usize / CHUNK_LEN;
     let end = (from + count).div_ceil(CHUNK_LEN as u64) as usize;
@@ -141,6 +145,17 @@ pub fn chunk(case: &mut Case, random: &mut Random) -> bool {
         flip(covering.swap_remove(one), random);
     }
     true
+}
+
+/// Another header nonce, or another key that the tags are under: the content
+/// key, or in SIV_CTRMAC the MAC master key.
+fn strange_reader(case: &mut Case, random: &mut Random) {
+    let nonce = own_sizes(case).nonce;
+    match (random.below(2), case.combo()) {
+        (0, _) => flip(&mut case.inputs[0][..nonce], random),
+        (_, Some(Combo::SivCtrmac)) => flip(&mut case.inputs[1][32..64], random),
+        _ => flip(&mut case.inputs[1][..32], random),
+    }
 }
 
 /// Another number, header nonce or chunk; or another key that the tag is under:

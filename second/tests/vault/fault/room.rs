@@ -2,7 +2,7 @@
 
 use crate::case::{Call, Case};
 use crate::common::random::Random;
-use crate::format::{full_len, sizes, VAULT, WRAPPED_KEY};
+use crate::format::{full_len, sizes, READER_KEYS, VAULT, WRAPPED_KEY};
 use crate::make;
 
 /// Makes a buffer too short for what goes into it.
@@ -34,7 +34,8 @@ fn needs(case: &Case) -> Vec<usize> {
         Call::OpenChunk => vec![input(3) - sizes().overhead],
         Call::WriteFile => vec![sizes().file(input(4))],
         Call::OpenFile => vec![make::cleartext_len(case)],
-        Call::ReadRange => vec![case.numbers[1] as usize],
+        Call::ReadRange | Call::ReaderRead => vec![case.numbers[1] as usize],
+        Call::OpenReader => vec![READER_KEYS],
         Call::WriteName => match full_len(input(2)) {
             full if full <= case.threshold().into() => vec![full, 0],
             full => vec![32, full],

@@ -77,7 +77,7 @@ fn mend(
     cleartext[from..from + new.len()].copy_from_slice(&new);
     let mut end = compare.end(&Case {
         call: Call::Mend,
-        inputs: vec![log.write.inputs[0].clone(), new, nonces],
+        inputs: vec![log.vault().to_vec(), new, nonces],
         numbers: vec![from as u64],
         buffers: vec![log.file.clone()],
     });

@@ -14,7 +14,7 @@ use Rattle.frame.proofs.Lengths.{file-clear}
 use Rattle.vault.specs.Vault.{sizesOf, codecWith}
 use Rattle.vault.proofs.Combos.{sized-exactly}
 use Rattle.vault.proofs.Payloads.{key-part}
-use Rattle.file_read.specs.Under.{readUnder}
+use Rattle.file_range.specs.Under.{readUnder}
 use Rattle.file_read.proofs.Under.{refused-9, read-under}
 use Rattle.file_read.proofs.inside.read_inside.Statement.{statement}
 use Rattle.file_read.proofs.inside.read_inside.Tie as tie

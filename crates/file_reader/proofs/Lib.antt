@@ -1,0 +1,4 @@
+pub mod Combos
+pub mod Files
+pub mod Refusals
+pub mod Demands

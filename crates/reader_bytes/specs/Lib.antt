@@ -1,0 +1,2 @@
+pub mod ReaderBytes
+pub mod Statements

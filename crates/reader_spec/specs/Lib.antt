@@ -1,0 +1,3 @@
+pub mod Reader
+pub mod Rules
+pub mod Statements
