@@ -246,11 +246,11 @@ uint32_t skrapnefja_mend(const uint8_t *vault, size_t vault_len,
  *     skrapnefja_reader log = {file, file_len, {0}};
  *     skrapnefja_open_reader(SKRAPNEFJA_VAULT(vault), SKRAPNEFJA_READER(log), &length);
  *     skrapnefja_reader_read(SKRAPNEFJA_READER(log), from, count, out, out_len, &length, &at);
- * While the file's bytes are those for which the reader was made, a read returns and writes what skrapnefja_read_range does for that
- * file and that vault. Reads do not change the reader: there may be any number of them, in any order. A mend leaves the header and
- * the length, so the same reader reads the mended file. Another file needs a reader of its own, and so does the same one written anew:
- * in SIV_GCM row 10 tells of it, but in SIV_CTRMAC, where the MAC does not depend on the content key, wrong bytes are read without a
- * refusal.
+ * While the file's bytes are those for which the reader was made, a read through it returns and writes what skrapnefja_read_range
+ * does for that file and that vault; through that of a refused file, row 4. Reads do not change the reader: there may be any number of
+ * them, in any order. A mend leaves the header and the length, so the same reader reads the mended file. Another file needs a reader of
+ * its own, and so does the same one written anew: in SIV_GCM row 10 tells of it where a chunk is read, but in SIV_CTRMAC, where the MAC
+ * does not depend on the content key, wrong bytes are read without a refusal.
  * The keys of a reader are secret: keep them as secret as the vault, and wipe them when done. The encryption master key is not among
  * them.
  */

@@ -83,7 +83,8 @@ pub holds-exactly : HoldsExactly
 unfolding openKept headerAt
 holds-exactly v f = (
   refl,
-  refl,
+  λ o. ap (λ (m : Kept). m .file) (holds v f o),
+  no-file v f,
   λ o.
       let e = ap (λ (m : Kept). m .keys) (holds v f o) in
       let k = C v f .headOf (headerAt (C v f .sizes) f) .key in

@@ -3,7 +3,7 @@
 use Prim.Native.Nat.{ℕ}
 use mathlib.Core.Path.{_≡_}
 use mathlib.Core.Bool.{true}
-use mathlib.Core.List.{List}
+use mathlib.Core.List.{List, []}
 use lib.ListN.{length, take, replicate}
 use Rattle.octets.specs.Rows.{refused, ended}
 use Rattle.frame.specs.Frame.{readRange}
@@ -20,8 +20,8 @@ use Rattle.file_reader.specs.Kept.{keysWith, openKept, codecHeld, readKe
 abbrev pub Passes : Vault → List ℕ → Type 0
 Passes v f = let C = codecOf v in KeySizes (v .enc) (v .mac) × FileLength (C .sizes) (length f) × (C .headerGood (take (C .sizes .header) f) ≡ true)
 
--- The answer and the file of the making are those of `openReader` under the record. Where the header passes, the keys are its content key, in SIV_CTRMAC with the MAC
--- master key and in SIV_GCM with zeros; where it does not, zeros.
+-- The answer of the making is that of `openReader` under the record. Where the header passes, the reader holds all of f and the content key, in SIV_CTRMAC with the MAC master
+-- key and in SIV_GCM with zeros; where it does not, no byte, and zeros.
 abbrev pub HoldsExactly : Type 0
 HoldsExactly =
     (v : Vault) (f : List ℕ) →
@@ -30,7 +30,8 @@ HoldsExactly =
     let none : List ℕ = replicate 32 0 in
     let k = C .headOf (take (C .sizes .header) f) .key in
     (m .outcome ≡ openReader C f .outcome)
-    × (m .file ≡ openReader C f .reader .file)
+    × (Passes v f → m .file ≡ f)
+    × ((Passes v f → ⊥) → m .file ≡ [])
     × (Passes v f → (v .combo ≡ SivGcm → m .keys ≡ keysWith k none SivGcm) × (v .combo ≡ SivCtrmac → m .keys ≡ keysWith k (v .mac) SivCtrmac))
     × ((Passes v f → ⊥) → m .keys ≡ keysWith none none (v .combo))
 

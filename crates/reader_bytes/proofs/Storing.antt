@@ -24,7 +24,7 @@ use Rattle.vault.specs.Vault.{sizesOf, codecOf}
 use Rattle.vault.proofs.Combos.{codecBy, codec-by, sized-exactly}
 use Rattle.file_reader.specs.Kept.{openKept}
 use Rattle.reader_bytes.specs.ReaderBytes.{noBytesIn, keysAfter, storeReaderRows, storeReader}
-use Rattle.reader_bytes.specs.Statements.{NoBytesStored, storeReaderRules, ReaderStoresExactly}
+use Rattle.reader_bytes.specs.Statements.{NoBytesStored, ReaderNumbers, storeReaderRules, ReaderStoresExactly}
 
 -- ---- the bytes
 
@@ -54,6 +54,9 @@ no-room out h = rw (lt-ltb (length out) 65 h)
 pub with-room : (out : List ℕ) → 65 ≤ length out → noBytesIn out ≡ filled (replicate 65 0) 65 out
 unfolding noBytesIn
 with-room out h = rw (le-ltb (length out) 65 h)
+
+pub reader-numbers : ReaderNumbers
+reader-numbers = (refl, refl)
 
 pub no-bytes-stored : NoBytesStored
 no-bytes-stored out = (no-room out, with-room out)

@@ -26,6 +26,10 @@ NoBytesStored =
     → (length out < 65 → noBytesIn out ≡ out)
     × (65 ≤ length out → noBytesIn out ≡ replicate 65 0 ++ drop 65 out)
 
+-- The numbers of the combos, which are those of a vault.
+abbrev pub ReaderNumbers : Type 0
+ReaderNumbers = (comboNumber SivGcm ≡ 1) × (comboNumber SivCtrmac ≡ 2)
+
 -- Making: the master keys have 32 bytes (1), the length of f is that of a file (4), there is room for 65 bytes (7), the header is good (9).
 abbrev pub storeReaderRules : Vault → List ℕ → ℕ → List Rule
 storeReaderRules v f room =
