@@ -121,7 +121,8 @@ typedef struct skrapnefja_vault {
 
 /*
  * A reader: a file that is kept open. Its keys are the content key, the MAC master key in SIV_CTRMAC or 32 zeros in SIV_GCM, and the
- * number of the combo in one byte. With 65 zeros as its keys it is the reader of no bytes, through which every read gets row 4.
+ * number of the combo in one byte. With 65 zeros as its keys it is the reader of no bytes, through which every read gets row 4; its
+ * `file` may not be null even then.
  */
 typedef struct skrapnefja_reader {
     const uint8_t *file;                       /* the file's bytes, which stay the caller's */
@@ -244,13 +245,13 @@ uint32_t skrapnefja_mend(const uint8_t *vault, size_t vault_len,
 /*
  * ---- A file that is kept open: its header is opened once, and not at each read.
  *     skrapnefja_reader log = {file, file_len, {0}};
- *     skrapnefja_open_reader(SKRAPNEFJA_VAULT(vault), SKRAPNEFJA_READER(log), &length);
+ *     skrapnefja_open_reader(SKRAPNEFJA_VAULT(vault), SKRAPNEFJA_READER(log), &log_length);
  *     skrapnefja_reader_read(SKRAPNEFJA_READER(log), from, count, out, out_len, &length, &at);
  * While the file's bytes are those for which the reader was made, a read through it returns and writes what skrapnefja_read_range
  * does for that file and that vault; through that of a refused file, row 4. Reads do not change the reader: there may be any number of
- * them, in any order. A mend leaves the header and the length, so the same reader reads the mended file. Another file needs a reader of
- * its own, and so does the same one written anew: in SIV_GCM row 10 tells of it where a chunk is read, but in SIV_CTRMAC, where the MAC
- * does not depend on the content key, wrong bytes are read without a refusal.
+ * them, in any order. A mend leaves the header and the length, so the same reader reads the mended file. Another file of the vault
+ * needs a reader of its own, and so does the same one written anew: in SIV_GCM row 10 tells of it where a chunk is read, but in
+ * SIV_CTRMAC, where the MAC does not depend on the content key, wrong bytes are read without a refusal.
  * The keys of a reader are secret: keep them as secret as the vault, and wipe them when done. The encryption master key is not among
  * them.
  */
@@ -258,7 +259,8 @@ uint32_t skrapnefja_mend(const uint8_t *vault, size_t vault_len,
 /*
  * Makes the reader of a file, once the header is found good: writes its keys, 65 bytes, and to `length` the length of the cleartext.
  * No chunk is looked at. Where the file is refused, by row 4 or 9, the first 65 bytes of `keys`, if it has as many, are zeros, those of
- * the reader of no bytes; the other rows leave `keys`. Rows 1, 17, 4, 7, 9.
+ * the reader of no bytes. The other rows leave `keys`, so that a struct which held another reader still has that one's keys.
+ * Rows 1, 17, 4, 7, 9.
  */
 uint32_t skrapnefja_open_reader(const uint8_t *vault, size_t vault_len,
                                 const uint8_t *file, size_t file_len,

@@ -27,15 +27,16 @@ use Rattle.vault.specs.declared.record.Combo.the-variants.{SivGcm, SivCtrmac}
 use Rattle.vault.specs.declared.record.Vault.{Vault}
 use Rattle.vault.specs.Vault.{sizesOf, codecWith, codecOf}
 use Rattle.vault.proofs.Combos.{opened-size, sized-exactly, two-combos}
-use Rattle.vault_bytes.specs.VaultBytes.{comboKnown, comboOf, lentRow, vaultIn, lentBy, lent, lentEnd}
+use Rattle.vault_bytes.specs.VaultBytes.{comboOf, lentRow, vaultIn, lentBy, lent}
 use Rattle.vault_bytes.specs.Statements.{KnownCombo}
 use Rattle.vault_bytes.proofs.Combos.{known-exactly}
+use Rattle.vault_bytes.proofs.Lending.{lent-exactly as vault-lent}
 use Rattle.file_reader.specs.declared.keys.ReaderKeys.{ReaderKeys}
 use Rattle.file_reader.specs.Kept.{Kept, keysWith, macFor, openKept, readKept}
 use Rattle.file_reader.specs.Demands.{Passes}
 use Rattle.file_reader.proofs.Demands.{holds, same-header}
 use Rattle.reader_bytes.specs.ReaderBytes.{comboNumber, keyBytes, noBytesIn, keysAfter, storeReader, readLent}
-use Rattle.reader_bytes.specs.Statements.{StoreRowsFourToNine, MadeReads}
+use Rattle.reader_bytes.specs.Statements.{StoreRowsFourToNine, StoreLentRows, MadeReads}
 use Rattle.reader_bytes.proofs.Storing.{joined-size, no-room, with-room, store-open, by-rules, gives}
 use Rattle.reader_bytes.proofs.Lending.{lent-joined, none-lent}
 
@@ -142,6 +143,11 @@ module _ (v : Vault) (f keys : List ℕ) (r : 65 ≤ length keys) where
 under-vault : {A : Type 0} (b : List ℕ) (call : Vault → A) (refusal : ℕ → A) → length b ≡ 66 → KnownCombo (getD b 64 0) → lent b call refusal ≡ call (vaultIn b)
 unfolding lentRow lentBy
 under-vault b call refusal l k = rw (eq-eqb (length b) 66 l, known-exactly (getD b 64 0) .1 k)
+
+pub store-lent-rows : StoreLentRows
+store-lent-rows vault f keys =
+    let t = vault-lent End vault (λ u. storeReader u f keys) (λ row. ended (refused row) keys) in
+    (t .0, t .1, under-vault vault (λ u. storeReader u f keys) (λ row. ended (refused row) keys))
 
 pub made-reads : MadeReads
 made-reads vault f keys l k r g from count out =

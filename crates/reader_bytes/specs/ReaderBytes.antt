@@ -13,7 +13,7 @@ use Rattle.vault.specs.declared.record.Combo.{Combo}
 use Rattle.vault.specs.declared.record.Combo.the-variants.{SivGcm, SivCtrmac}
 use Rattle.vault.specs.declared.record.Vault.{Vault}
 use Rattle.vault.specs.Vault.{codecOf}
-use Rattle.vault_bytes.specs.VaultBytes.{comboOf}
+use Rattle.vault_bytes.specs.VaultBytes.{comboOf, lentEnd}
 use Rattle.file_reader.specs.declared.keys.ReaderKeys.{ReaderKeys}
 use Rattle.file_reader.specs.Kept.{keysWith, openKept, readKept}
 
@@ -62,6 +62,10 @@ storeReader v f out =
     let C = codecOf v in
     let o = answer (storeReaderRows C f (length out)) (done (clearLength (C .sizes) (length f) ∷ [])) in
     ended o (keysAfter o (openKept v f .keys) out)
+
+-- the same, lent the bytes b as a vault, whose row leaves the buffer
+abbrev pub storeLent : List ℕ → List ℕ → List ℕ → End
+storeLent b f out = lentEnd b (λ v. storeReader v f out) out
 
 -- ---- reading
 

@@ -17,7 +17,7 @@ use Rattle.vault.specs.Vault.{codecOf}
 use Rattle.vault_bytes.specs.VaultBytes.{vaultIn, lentEnd}
 use Rattle.vault_bytes.specs.Statements.{KnownCombo}
 use Rattle.file_reader.specs.Kept.{keysWith, openKept, readKept}
-use Rattle.reader_bytes.specs.ReaderBytes.{comboNumber, noBytesIn, storeReader, readLent}
+use Rattle.reader_bytes.specs.ReaderBytes.{comboNumber, noBytesIn, storeReader, storeLent, readLent}
 
 -- The reader of no bytes: a buffer of fewer than 65 bytes stays, and of any other the first 65 are zeros, and the rest stays.
 abbrev pub NoBytesStored : Type 0
@@ -26,7 +26,7 @@ NoBytesStored =
     → (length out < 65 → noBytesIn out ≡ out)
     × (65 ≤ length out → noBytesIn out ≡ replicate 65 0 ++ drop 65 out)
 
--- The numbers of the combos, which are those of a vault.
+-- The numbers of the combos; those of a vault are the same (`vault_bytes/Statements.LentExactly`).
 abbrev pub ReaderNumbers : Type 0
 ReaderNumbers = (comboNumber SivGcm ≡ 1) × (comboNumber SivCtrmac ≡ 2)
 
@@ -80,13 +80,22 @@ StoreRowsFourToNine =
     × ((e ≡ ended (refused 9) (noBytesIn out)) ↔ (Sized × (65 ≤ length out) × (C .headerGood (take (C .sizes .header) f) ≡ true → ⊥)))
     × (65 ≤ length out → e .outcome ≡ openKept v f .outcome)
 
--- What the making left in a buffer with room, where the vault lent is one of 66 bytes: where it succeeded, a read that is lent the same file, or any bytes that begin with the
+-- The making, lent bytes as a vault: where they are not 66, row 1, and where they are and their last but one is neither 1 nor 2, row 17, and both leave the buffer; else it ends
+-- under the record of these bytes.
+abbrev pub StoreLentRows : Type 0
+StoreLentRows =
+    (vault f keys : List ℕ)
+    → ((length vault ≡ 66 → ⊥) → storeLent vault f keys ≡ ended (refused 1) keys)
+    × (length vault ≡ 66 → (KnownCombo (getD vault 64 0) → ⊥) → storeLent vault f keys ≡ ended (refused 17) keys)
+    × (length vault ≡ 66 → KnownCombo (getD vault 64 0) → storeLent vault f keys ≡ storeReader (vaultIn vault) f keys)
+
+-- What the making left in a buffer with room, where the vault lent has 66 bytes and a known combo: where it succeeded, a read that is lent the same file, or any bytes that begin with the
 -- same header, ends as the range read of these under that vault, answer and buffer; where the file was refused, every read, whatever file it is lent, ends by row 4.
 abbrev pub MadeReads : Type 0
 MadeReads =
     (vault f keys : List ℕ) → length vault ≡ 66 → KnownCombo (getD vault 64 0) → 65 ≤ length keys → (g : List ℕ) (from count : ℕ) (out : List ℕ) →
     let v = vaultIn vault in
-    let m = lentEnd vault (λ u. storeReader u f keys) keys in
+    let m = storeLent vault f keys in
     let header = codecOf v .sizes .header in
     let e = readLent g (take 65 (m .buffer)) from count out in
     (Succeeded m → take header g ≡ take header f → e ≡ lentEnd vault (λ u. readRange (codecOf u) g from count out) out)

@@ -6,8 +6,7 @@ use reader_bytes::stored::store_reader;
 use vault_bytes::lent_row;
 use vault_bytes::vault_in;
 ghost use mathlib.Core.Path.{_≡_};
-ghost use Rattle.vault_bytes.specs.VaultBytes.{lentEnd};
-ghost use Rattle.reader_bytes.specs.ReaderBytes.{storeReader, readLent};
+ghost use Rattle.reader_bytes.specs.ReaderBytes.{storeLent, readLent};
 ghost use Rattle.skrapnefja.specs.Results.{result, resultOf, placedResult, placedResultOf};
 
 // Makes a reader of a file: writes its keys, 65 bytes, or 65 zeros where the file is refused. `written` is the length of the cleartext.
@@ -18,7 +17,7 @@ pub extern "C" fn skrapnefja_open_reader(
     keys: &mut [u8],
     written: &mut u64,
 ) -> u32
-    ensures { λ r. ⌜ result r (now (keys .exit)) (now (written .exit)) ≡ resultOf (lentEnd (now (vault .entry)) (λ v. storeReader v (now (file .entry)) (now (keys .entry))) (now (keys .entry))) (now (written .entry)) ⌝ }
+    ensures { λ r. ⌜ result r (now (keys .exit)) (now (written .exit)) ≡ resultOf (storeLent (now (vault .entry)) (now (file .entry)) (now (keys .entry))) (now (written .entry)) ⌝ }
 {
     let row = lent_row(vault);
     if row != 0 {
