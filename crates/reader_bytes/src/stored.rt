@@ -1,4 +1,7 @@
 // The making of a reader, with a buffer for its bytes.
+use crate::layout::COMBO_PLACE;
+use crate::layout::KEY_SIZE;
+use crate::layout::READER_SIZE;
 use answer::Answer;
 use answer::Refusal;
 use file_reader::keys::ReaderKeys;
@@ -15,15 +18,6 @@ ghost use Rattle.octets.specs.Bytes.{filled};
 ghost use Rattle.octets.specs.Rows.{ended};
 ghost use Rattle.answer.specs.Meaning.{meaning};
 ghost use Rattle.reader_bytes.specs.ReaderBytes.{readerSize, comboNumber, keyBytes, noBytesIn, keysAfter, storeReader};
-
-// The bytes of a key.
-const KEY_SIZE: usize = 32;
-
-// Where the combo's number stands, behind the two keys.
-const COMBO_PLACE: usize = 64;
-
-// The bytes of a reader.
-const READER_SIZE: usize = 65;
 
 // The number of a combo.
 fn number_of(combo: Combo) -> u8
