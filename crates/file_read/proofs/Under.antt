@@ -1,17 +1,15 @@
 -- How a read under the MAC master key and a header's nonce and content key is the range read, in either combo.
 -- Assumes nothing.
-use Prim.Native.Nat.{ℕ, _+_, _/_, _≤_, _<_}
+use Prim.Native.Nat.{ℕ, _+_, _≤_}
 use mathlib.Core.Path.{_≡_, sym}
 use mathlib.Core.Bool.{true, false}
-use mathlib.Core.List.{List, [], _∷_}
-use borrow.Author.Tests.{lt-ltb, le-ltb}
+use mathlib.Core.List.{List}
+use borrow.Author.Tests.{le-ltb}
 use lib.Dec.{lit≤}
-use lib.ListN.{length, take, drop}
+use lib.ListN.{length, take}
 use lib.Seq.{take-take}
-use Rattle.octets.specs.Bytes.{filled}
-use Rattle.octets.specs.Rows.{done, refused, refusedAt, answer, ended}
-use Rattle.aes_spec.specs.Cipher.{aes}
-use Rattle.frame.specs.Layout.{chunkSize, covering, clearLength, rightLength, headerAt, allParts}
+use Rattle.octets.specs.Rows.{refused, answer, ended}
+use Rattle.frame.specs.Layout.{clearLength, rightLength, headerAt}
 use Rattle.frame.specs.Frame.{headIn, clearOf, badChunk, rangeRows, readRange}
 use Rattle.frame.proofs.Success.{read-ends}
 use Rattle.frame.proofs.Answers.{row-9}
@@ -20,7 +18,7 @@ use Rattle.siv_ctrmac.specs.SivCtrmac as ctrmac
 use Rattle.vault.specs.declared.record.Combo.{Combo}
 use Rattle.vault.specs.declared.record.Combo.the-variants.{SivGcm, SivCtrmac}
 use Rattle.vault.specs.Vault.{sizesOf, codecWith}
-use Rattle.file_parts.specs.Under.{plainUnder, badUnder}
+use Rattle.file_parts.specs.Under.{badUnder}
 use Rattle.file_range.specs.Under.{readUnder}
 
 -- where no row before 9 applies: row 9 itself; and where it does not apply, reading a range is reading under the nonce and the content key of the

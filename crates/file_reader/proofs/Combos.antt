@@ -7,11 +7,11 @@ use mathlib.Core.List.{List, [], _∷_}
 use native.Mathlib.Omega.{arith}
 use borrow.Author.Tests.{le-ltb}
 use lib.Dec.{lit≤}
-use lib.ListN.{length, take, drop, replicate}
+use lib.ListN.{length, take, replicate}
 use Rattle.octets.specs.Rows.{done, refused, answer, ended}
 use Rattle.octets.proofs.Equality.{true-false}
 use Rattle.frame.specs.Layout.{clearLength, rightLength, headerAt}
-use Rattle.frame.specs.Frame.{Codec, headIn}
+use Rattle.frame.specs.Frame.{Codec}
 use Rattle.frame.specs.Rules.{KeySizes}
 use Rattle.frame.proofs.KeySizes.{keys-exactly}
 use Rattle.frame.proofs.Lengths.{right-short}
@@ -25,7 +25,7 @@ use Rattle.siv_ctrmac.specs.SivCtrmac as ctrmac
 use Rattle.vault.specs.declared.record.Combo.{Combo}
 use Rattle.vault.specs.declared.record.Combo.the-variants.{SivGcm, SivCtrmac}
 use Rattle.vault.specs.declared.record.Vault.{Vault}
-use Rattle.vault.specs.Vault.{sizesOf, codecWith, codecOf}
+use Rattle.vault.specs.Vault.{sizesOf, codecWith}
 use Rattle.vault.proofs.Combos.{codecBy, codec-by}
 use Rattle.file_parts.specs.Under.{badUnder}
 use Rattle.file_range.specs.Under.{readUnder}

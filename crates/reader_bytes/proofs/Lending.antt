@@ -5,18 +5,13 @@ use mathlib.Core.Path.{_≡_, refl, sym, ap, ap₂, _∙_}
 use mathlib.Core.Bool.{Bool, true, false, cond}
 use mathlib.Core.List.{List, [], _∷_, _++_, append-assoc}
 use native.Mathlib.Omega.{arith}
-use borrow.Author.Tests.{eqb-true, eq-eqb, ne-eqb, leb-true, leb-false, le-leb, lt-leb}
-use lib.Dec.{eqb, leb, lit≤}
+use borrow.Author.Tests.{eq-eqb, ne-eqb, leb-true, leb-false, le-leb, lt-leb}
+use lib.Dec.{leb, lit≤}
 use lib.ListN.{length, take, drop, getD, length-append, length-drop}
 use lib.Seq.{length-take-le, split-at, take-add, take-at, drop-at, getD-at}
 use Rattle.octets.specs.Rows.{refused, ended}
 use Rattle.octets.proofs.Lists.{drop-all}
-use Rattle.octets.proofs.Equality.{true-false}
 use Rattle.frame.specs.Rules.{KeySizes}
-use Rattle.frame.proofs.Lengths.{right-short}
-use Rattle.vault.specs.declared.record.Combo.{Combo}
-use Rattle.vault.specs.declared.record.Combo.the-variants.{SivGcm, SivCtrmac}
-use Rattle.vault.specs.Vault.{sizesOf}
 use Rattle.vault_bytes.specs.VaultBytes.{comboOf}
 use Rattle.file_reader.specs.declared.keys.ReaderKeys.{ReaderKeys}
 use Rattle.file_reader.specs.Kept.{keysWith, readKept}

@@ -2,9 +2,8 @@
 -- Assumes nothing.
 use Prim.Native.Nat.{ℕ, _-_, _≤_, _<_}
 use mathlib.Core.Path.{_≡_, refl, sym, ap, subst, _∙_}
-use mathlib.Core.Logic.{_↔_, ⊎-elim}
-use mathlib.Core.Bool.{true, false}
-use mathlib.Core.List.{List, [], _∷_, _++_}
+use mathlib.Core.Logic.{⊎-elim}
+use mathlib.Core.List.{List}
 use native.Mathlib.Omega.{arith}
 use borrow.Author.Tests.{eq-eqb}
 use lib.Dec.{lit≤}
@@ -17,7 +16,7 @@ use Rattle.aes_spec.specs.Cipher.{aes}
 use Rattle.aes.proofs.Ciphers.{length-aes}
 use Rattle.frame.specs.Layout.{Sizes, headerAt}
 use Rattle.frame.specs.Frame.{readRange}
-use Rattle.frame.specs.Rules.{KeySizes, FileLength}
+use Rattle.frame.specs.Rules.{KeySizes}
 use Rattle.siv_gcm.specs.SivGcm as gcm
 use Rattle.siv_ctrmac.specs.SivCtrmac as ctrmac
 use Rattle.reader_spec.specs.Reader.{openReader}

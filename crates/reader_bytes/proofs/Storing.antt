@@ -7,8 +7,8 @@ use mathlib.Core.Bool.{true, false, not}
 use mathlib.Core.List.{List, [], _∷_, _++_}
 use native.Mathlib.Omega.{arith}
 use borrow.Author.Tests.{lt-ltb, le-ltb}
-use lib.ListN.{length, drop, replicate, length-append}
-use lib.Seq.{length-take-le, take-all}
+use lib.ListN.{length, replicate, length-append}
+use lib.Seq.{length-take-le}
 use Rattle.octets.specs.Bytes.{placed, filled}
 use Rattle.octets.specs.Rows.{Outcome, done, refused, answer, AnswersBy, End, ended}
 use Rattle.octets.proofs.Lists.{at-front, front-filled, placed-placed}

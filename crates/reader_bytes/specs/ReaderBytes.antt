@@ -1,7 +1,7 @@
 -- A kept reader as C callers hold it: the file, which they lend again to each read, and 65 bytes that the making writes (`storeReader`, by `openKept`; `readLent`, by `readKept`).
 -- Assumes nothing.
 use Prim.Native.Nat.{ℕ}
-use mathlib.Core.Bool.{Bool, not, cond}
+use mathlib.Core.Bool.{not, cond}
 use mathlib.Core.List.{List, [], _∷_, _++_}
 use lib.Dec.{eqb, leb, ltb}
 use lib.ListN.{length, take, drop, getD, replicate}

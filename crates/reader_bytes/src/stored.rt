@@ -44,7 +44,7 @@ fn store_keys(keys: ReaderKeys, out: &mut [u8])
 }
 
 // Writes the reader of no bytes to the front of out, if there is room for it.
-pub fn store_none(out: &mut [u8])
+fn store_none(out: &mut [u8])
     ensures { λ _. ⌜ now (out .exit) ≡ noBytesIn (now (out .entry)) ⌝ }
 {
     if out.len() < READER_SIZE {

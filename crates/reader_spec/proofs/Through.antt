@@ -4,7 +4,7 @@ use mathlib.Core.Path.{_≡_, refl, sym, ap, ap₂, _∙_}
 use mathlib.Core.Bool.{Bool, true, not}
 use mathlib.Core.Logic.{_↔_}
 use mathlib.Core.List.{List, [], _∷_}
-use Prim.Native.Nat.{ℕ, _+_, _/_, _≤_, _<_}
+use Prim.Native.Nat.{ℕ, _+_, _/_, _<_}
 use lib.ListN.{length, take, drop}
 use lib.Seq.{take-take}
 use lib.Dec.{ltb}
@@ -17,10 +17,10 @@ use Rattle.frame.specs.Frame.{Codec, headWith, headIn, clearOf, badChunk, range
 use Rattle.frame.proofs.Lengths.{right-short}
 use Rattle.frame.proofs.Rules.{length-exactly, covering-good, row-test}
 use Rattle.frame.proofs.RowTen.{row-ten}
-use Rattle.reader_spec.specs.Reader.{Reader, noBytes, Making, readerOf, openReader, headThrough, clearThrough, badThrough, throughRows, readThrough}
+use Rattle.reader_spec.specs.Reader.{Reader, noBytes, Making, readerOf, headThrough, clearThrough, badThrough, throughRows, readThrough}
 use Rattle.reader_spec.specs.Rules.{throughRules}
 use Rattle.reader_spec.specs.Statements.{ReaderLaws, ThroughExactly, ReaderRowsAscend, ThroughRowsFourToSeven, ThroughRowTen, KeptReads, ReaderExactly}
-use Rattle.reader_spec.proofs.Making.{making-exactly, makes-as-reads, Passes, opened-by, refused-by}
+use Rattle.reader_spec.proofs.Making.{making-exactly, makes-as-reads, opened-by, refused-by}
 
 module _ (C : Codec) where
   open Codec C using (sizes as z, keysRight, headerGood, good, plain)

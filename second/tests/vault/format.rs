@@ -35,6 +35,29 @@ impl Sizes {
     pub fn file(&self, cleartext: usize) -> usize {
         self.header + cleartext + cleartext.div_ceil(CHUNK_LEN) * self.overhead
     }
+
+    /// Whether some file has this length.
+    pub fn fits(&self, len: usize) -> bool {
+        let rest = len.checked_sub(self.header).map(|rest| rest % self.chunk);
+        let fits = rest.is_some_and(|rest| rest == 0 || rest > self.overhead);
+        fits && len <= self.longest_file
+    }
+
+    /// Lengths around those of no cleartext, of a chunk's overhead, of one chunk
+    /// and of the most chunks.
+    pub fn around_edges(&self) -> impl Iterator<Item = usize> {
+        let one_chunk = self.header + self.chunk;
+        let edges = [
+            self.header,
+            self.header + self.overhead,
+            one_chunk,
+            one_chunk + self.overhead,
+        ];
+        let near = edges.into_iter().flat_map(|edge| edge - 3..=edge + 3);
+        let longest = self.longest_file - 1..=self.longest_file + 1;
+        let more = [self.overhead + 1, self.chunk].map(|more| self.longest_file + more);
+        near.chain(longest).chain(more)
+    }
 }
 
 pub fn sizes(combo: Combo) -> Sizes {

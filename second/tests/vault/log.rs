@@ -7,6 +7,23 @@ use crate::make;
 use second::vault::{Combo, CHUNK_LEN};
 use std::ops::Range;
 
+/// Ranges of three chunks, with the first chunk of each and the one behind its
+/// last.
+pub const RANGES_OF_THREE_CHUNKS: [(u64, u64, [usize; 2]); 12] = [
+    (0, 1, [0, 1]),
+    (0, 32_768, [0, 1]),
+    (0, 32_769, [0, 2]),
+    (32_767, 2, [0, 2]),
+    (32_768, 1, [1, 2]),
+    (32_768, 32_768, [1, 2]),
+    (32_767, 32_770, [0, 3]),
+    (65_535, 2, [1, 3]),
+    (98_303, 1, [2, 3]),
+    (0, 98_304, [0, 3]),
+    (32_768, 0, [1, 1]),
+    (98_304, 0, [3, 3]),
+];
+
 pub struct Log {
     pub combo: Combo,
     pub write: Case,

@@ -4,6 +4,7 @@ use super::{done, refused, Log};
 use crate::case::Case;
 use crate::compare::Compare;
 use crate::format::{sizes, Sizes};
+use crate::log::RANGES_OF_THREE_CHUNKS;
 use crate::part::{Part, Run::Each};
 use second::vault::{Combo, CHUNK_LEN};
 
@@ -19,21 +20,6 @@ fn flipped(mend: &Case, place: usize, mask: u8) -> Case {
     damaged
 }
 
-/// Ranges of three chunks, with the first chunk of each and the one behind its
-/// last.
-const RANGES: [(usize, usize, [usize; 2]); 10] = [
-    (0, 1, [0, 1]),
-    (0, 32_769, [0, 2]),
-    (32_767, 2, [0, 2]),
-    (32_768, 1, [1, 2]),
-    (32_768, 32_768, [1, 2]),
-    (32_767, 32_770, [0, 3]),
-    (65_535, 2, [1, 3]),
-    (98_303, 1, [2, 3]),
-    (32_768, 0, [1, 1]),
-    (98_304, 0, [3, 3]),
-];
-
 /// A mend is done whatever the chunks hold that do not cover its range, and these
 /// stay as they are. It is refused with the lowest covering one that is damaged.
 fn covering(compare: &mut Compare, combo: Combo) {
@@ -41,8 +27,8 @@ fn covering(compare: &mut Compare, combo: Combo) {
         Log::new(&mut compare.random, combo, 3 * CHUNK_LEN),
         sizes(combo),
     );
-    for (from, count, [first, end]) in RANGES {
-        let mend = log.mend(&mut compare.random, from, count);
+    for (from, count, [first, end]) in RANGES_OF_THREE_CHUNKS {
+        let mend = log.mend(&mut compare.random, from as usize, count as usize);
         for damaged in 0..8 {
             let is_damaged = |chunk: &usize| damaged >> chunk & 1 == 1;
             let mut file = mend.clone();

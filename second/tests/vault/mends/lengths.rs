@@ -54,21 +54,8 @@ fn around_edges(compare: &mut Compare, combo: Combo) {
     let sizes = sizes(combo);
     let log = Log::new(&mut compare.random, combo, 0);
     let mut mend = log.mend(&mut compare.random, 0, 0);
-    let one_chunk = sizes.header + sizes.chunk;
-    let edges = [
-        sizes.header,
-        sizes.header + sizes.overhead,
-        one_chunk,
-        one_chunk + sizes.overhead,
-    ];
-    let near = edges.into_iter().flat_map(|edge| edge - 3..=edge + 3);
-    let longest = sizes.longest_file - 1..=sizes.longest_file + 1;
-    let more = [1, sizes.overhead + 1, sizes.chunk].map(|more| sizes.longest_file + more);
-    for len in near.chain(longest).chain(more) {
-        let rest = len.checked_sub(sizes.header).map(|rest| rest % sizes.chunk);
-        let fits = rest.is_some_and(|rest| rest == 0 || rest > sizes.overhead);
-        let fits = fits && len <= sizes.longest_file;
+    for len in sizes.around_edges() {
         mend.buffers[0] = vec![9; len];
-        refused(compare, &mend, if fits { 9 } else { 4 });
+        refused(compare, &mend, if sizes.fits(len) { 9 } else { 4 });
     }
 }

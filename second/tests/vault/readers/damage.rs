@@ -4,7 +4,7 @@ use super::{gives, refused, Reader};
 use crate::compare::Compare;
 use crate::fault::flip;
 use crate::format::{sizes, Sizes};
-use crate::log::Log;
+use crate::log::{Log, RANGES_OF_THREE_CHUNKS};
 use crate::part::{Part, Run::Each};
 use second::vault::{Combo, CHUNK_LEN};
 
@@ -13,23 +13,6 @@ pub const PARTS: &[Part] = &[
     ("readers: every bit of a short file", Each(bits)),
     ("readers: damage in every part", Each(places)),
     ("readers: headers damaged later", Each(headers)),
-];
-
-/// Ranges of three chunks, with the first chunk of each and the one behind its
-/// last.
-const RANGES: [(u64, u64, [usize; 2]); 12] = [
-    (0, 1, [0, 1]),
-    (0, 32_768, [0, 1]),
-    (0, 32_769, [0, 2]),
-    (32_767, 2, [0, 2]),
-    (32_768, 1, [1, 2]),
-    (32_768, 32_768, [1, 2]),
-    (32_767, 32_770, [0, 3]),
-    (65_535, 2, [1, 3]),
-    (98_303, 1, [2, 3]),
-    (0, 98_304, [0, 3]),
-    (32_768, 0, [1, 1]),
-    (98_304, 0, [3, 3]),
 ];
 
 /// A range is read whatever the chunks hold that do not cover it, and is refused
@@ -49,7 +32,7 @@ fn covering(compare: &mut Compare, combo: Combo) {
                 &mut compare.random,
             );
         }
-        for (from, count, [first, end]) in RANGES {
+        for (from, count, [first, end]) in RANGES_OF_THREE_CHUNKS {
             let bad = (first..end).find(is_damaged).map(|chunk| chunk as u64);
             let end = reader.read(compare, from, count, &out);
             assert_eq!(end.row, if bad.is_some() { 10 } else { 0 });

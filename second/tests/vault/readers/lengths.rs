@@ -3,7 +3,7 @@
 use super::{not_made, opening, reading, refused, Reader};
 use crate::compare::Compare;
 use crate::fault::resize;
-use crate::format::{sizes, Sizes, READER_KEYS};
+use crate::format::{sizes, READER_KEYS};
 use crate::log::Log;
 use crate::make;
 use crate::part::{Part, Run::Each};
@@ -13,13 +13,6 @@ pub const PARTS: &[Part] = &[
     ("readers: files cut and extended", Each(cut)),
     ("readers: every length around an edge", Each(around_edges)),
 ];
-
-/// Whether some file has this length.
-fn fits(sizes: &Sizes, len: usize) -> bool {
-    let rest = len.checked_sub(sizes.header).map(|rest| rest % sizes.chunk);
-    let fits = rest.is_some_and(|rest| rest == 0 || rest > sizes.overhead);
-    fits && len <= sizes.longest_file
-}
 
 /// Files that have more bytes or fewer than were written, and than the reader was
 /// made for: their reader can be made anew, or not.
@@ -33,7 +26,7 @@ fn cut(compare: &mut Compare, combo: Combo) {
         for len in (0..sizes.header + 4).chain(near) {
             let mut other = log.file.clone();
             resize(&mut other, len, &mut compare.random);
-            with_length(compare, &reader.with_file(other), fits(&sizes, len));
+            with_length(compare, &reader.with_file(other), sizes.fits(len));
         }
     }
 }
@@ -64,18 +57,8 @@ fn around_edges(compare: &mut Compare, combo: Combo) {
         &[combo.number()],
     ]
     .concat();
-    let one_chunk = sizes.header + sizes.chunk;
-    let edges = [
-        sizes.header,
-        sizes.header + sizes.overhead,
-        one_chunk,
-        one_chunk + sizes.overhead,
-    ];
-    let near = edges.into_iter().flat_map(|edge| edge - 3..=edge + 3);
-    let longest = sizes.longest_file - 1..=sizes.longest_file + 1;
-    let more = [sizes.overhead + 1, sizes.chunk].map(|more| sizes.longest_file + more);
-    for len in near.chain(longest).chain(more) {
-        let (file, fits) = (vec![9; len], fits(&sizes, len));
+    for len in sizes.around_edges() {
+        let (file, fits) = (vec![9; len], sizes.fits(len));
         let row = if fits { 9 } else { 4 };
         not_made(compare, &opening(&vault, &file, &keys), row);
         let none = reading(&file, &keys, [0, 0], &[7]);

@@ -1,7 +1,7 @@
 -- `read_lent`: the two tests of the bytes, and then the read through the keys.
 -- Assumes nothing.
 use Prim.Native.Nat.{ℕ}
-use mathlib.Core.Path.{_≡_, sym, ap₂, _∙_}
+use mathlib.Core.Path.{sym, ap₂, _∙_}
 use mathlib.Core.List.{List}
 use borrow.Author.Needs.{needs}
 use Rattle.file_reader.specs.declared.keys.ReaderKeys.{ReaderKeys}

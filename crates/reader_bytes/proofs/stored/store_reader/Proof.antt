@@ -4,16 +4,13 @@ use Prim.Native.Nat.{ℕ}
 use mathlib.Core.Path.{_≡_, sym, ap, ap₂, _∙_}
 use mathlib.Core.Bool.{true}
 use mathlib.Core.List.{List}
-use lib.ListN.{length}
 use borrow.Author.Needs.{needs}
 use borrow.Author.Tests.{not-true, not-false}
 use Rattle.octets.specs.Rows.{Outcome, refused, ended}
 use Rattle.answer.specs.declared.Answer.{Answer}
 use Rattle.answer.specs.Meaning.{meaning}
-use Rattle.frame.specs.Layout.{rightLength}
 use Rattle.frame.specs.Frame.{masterKeysRight}
 use Rattle.frame.proofs.KeySizes.{keys-exactly}
-use Rattle.vault.specs.Vault.{sizesOf}
 use Rattle.file_reader.specs.declared.keys.ReaderKeys.{ReaderKeys}
 use Rattle.reader_bytes.specs.ReaderBytes.{keysAfter}
 use Rattle.reader_bytes.proofs.Storing.{store-4, store-7, store-open}
