@@ -216,7 +216,10 @@ uint32_t skrapnefja_open_file(const uint8_t *vault, size_t vault_len,
 /*
  * Reads `count` bytes of the cleartext of a file, the first of them at place `from`, counted from 0, once the header and every
  * chunk that the range covers are found good. `from` and `count` may be any numbers. A range of no bytes looks at the header
- * only. Rows 1, 17, 4, 6, 7, 9, 10.
+ * only.
+ * Neighbouring reads add up, also those through a reader: with room, the reads from a to b and from b to c both succeed exactly when
+ * the read from a to c does, and give its bytes. Where c is inside, that one is refused as the first of the two is that is refused.
+ * Rows 1, 17, 4, 6, 7, 9, 10.
  */
 uint32_t skrapnefja_read_range(const uint8_t *vault, size_t vault_len,
                                const uint8_t *file, size_t file_len, uint64_t from, uint64_t count,
@@ -226,7 +229,8 @@ uint32_t skrapnefja_read_range(const uint8_t *vault, size_t vault_len,
  * Mends a file in place: replaces bytes of its cleartext by as many new ones, the first of them at place `from`, counted from 0. The
  * length stays. The chunks that the range covers are sealed again, each with its lent nonce, once the header and all of them are
  * found good. No other byte of the file changes, and a chunk that is not covered may be bad, and stays so. `from` may be any number.
- * A range of no bytes covers no chunk, looks at the header only, and changes nothing.
+ * A range of no bytes covers no chunk, looks at the header only, and changes nothing. A read that has none of the replaced bytes
+ * returns and writes after the mend what it did before it.
  * `nonces` has 12 or 16 bytes for each covered chunk, in order: for SKRAPNEFJA_COVERING_CHUNKS(from, new_bytes_len) of them, the first
  * of which is number from / 32,768, rounded down. Row 1 counts them so, also where the range is not inside. Row 8 is given if two of
  * the nonces are equal, or if one is that of a chunk now in the file, covered or not, good or not. The nonce of the header does not

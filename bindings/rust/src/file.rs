@@ -60,6 +60,11 @@ impl Vault {
     /// `from` bytes, and gives their number. Only the header and the chunks
     /// that have some of these bytes are looked at, and all of them before the
     /// first byte is written. Refused with rows 4, 6, 7, 9 and 10.
+    ///
+    /// Neighbouring reads add up: with room, those from a to b and from b to c
+    /// both succeed exactly when that from a to c does, and give its bytes. Where
+    /// c is inside, that one is refused as the first of the two is that is
+    /// refused.
     pub fn read_range(
         &self,
         file: &[u8],
@@ -78,7 +83,9 @@ impl Vault {
     /// length stays. The chunks that have some of these bytes are sealed again,
     /// each with its nonce, once the header and all of them are found good. No
     /// other byte of the file changes, and the other chunks may be bad. Without
-    /// new bytes only the header is looked at, and nothing changes.
+    /// new bytes only the header is looked at, and nothing changes. A read that
+    /// has none of the replaced bytes ends as before the mend, with the same
+    /// answer and the same bytes.
     ///
     /// The nonces are one after the other, one for each of these chunks:
     /// [`covering_chunks`] tells how many. They must differ from each other and

@@ -80,7 +80,9 @@ impl Reader<'_> {
     /// [`Vault::read_range`] for this file and the vault that made the reader,
     /// but that through the reader of a refused file every read gets row 4.
     /// Only the chunks that have some of these bytes are looked at, all of them
-    /// before the first byte is written, and of the header its nonce. Refused with rows 4, 6, 7 and 10.
+    /// before the first byte is written, and of the header its nonce. Refused
+    /// with rows 4, 6, 7 and 10. Neighbouring reads add up, as those of
+    /// [`Vault::read_range`] do.
     pub fn read(&self, from: u64, count: u64, out: &mut [u8]) -> Result<usize, Refusal> {
         let (file, keys, mut length, mut at) = (self.file, &self.keys, 0, 0);
         let status = safely!(skrapnefja_reader_read:

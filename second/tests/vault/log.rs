@@ -2,6 +2,7 @@
 
 use crate::case::Case;
 use crate::common::random::Random;
+use crate::fault::flip;
 use crate::format::sizes;
 use crate::make;
 use second::vault::{Combo, CHUNK_LEN};
@@ -47,6 +48,16 @@ impl Log {
 
     pub fn cleartext(&self) -> &[u8] {
         &self.write.inputs[4]
+    }
+
+    /// Its file with a wrong bit in each chunk of a set, which has a bit for each.
+    pub fn damaged(&self, random: &mut Random, set: usize) -> Vec<u8> {
+        let (mut file, sizes) = (self.file.clone(), sizes(self.combo));
+        let chunks = file[sizes.header..].chunks_mut(sizes.chunk);
+        for (_, chunk) in chunks.enumerate().filter(|(i, _)| set >> i & 1 == 1) {
+            flip(chunk, random);
+        }
+        file
     }
 
     /// The keys of its reader.

@@ -40,6 +40,7 @@ mod longest;
 mod make;
 mod mends;
 mod names;
+mod neighbours;
 mod order;
 mod other_combo;
 mod part;
@@ -105,6 +106,7 @@ fn main() -> ExitCode {
         PARTS.concat(),
         mends::PARTS.concat(),
         readers::PARTS.concat(),
+        neighbours::PARTS.concat(),
         places::PARTS.concat(),
         labels::PARTS.concat(),
     ]

@@ -24,7 +24,8 @@ pub use mends::*;
 pub use names::*;
 pub use nonces::*;
 pub use readers::*;
-use sizes::{chunk_len, file_len, name_len, range};
+use sizes::{chunk_len, file_len, name_len};
+pub use sizes::{or_outside, place, range, room};
 pub use vaults::*;
 
 pub fn case(call: Call, random: &mut Random, combo: Combo) -> Case {
@@ -136,7 +137,7 @@ fn with_room(
 }
 
 /// A buffer of this length or some bytes more.
-fn buffer(random: &mut Random, len: usize) -> Vec<u8> {
+pub fn buffer(random: &mut Random, len: usize) -> Vec<u8> {
     let spare = random.below(2) * random.below(40);
     random.bytes(len + spare)
 }

@@ -37,15 +37,15 @@ pub const PARTS: [&[Part]; 13] = [
 ];
 
 /// A reader that was made, with the vault that was lent for it.
-struct Reader {
+pub struct Reader {
     vault: Vec<u8>,
     file: Vec<u8>,
-    keys: Vec<u8>,
+    pub keys: Vec<u8>,
 }
 
 impl Reader {
     /// Fails unless both programs make the reader of the log, with its keys.
-    fn new(compare: &mut Compare, log: &Log) -> Self {
+    pub fn new(compare: &mut Compare, log: &Log) -> Self {
         let room = compare.random.bytes(READER_KEYS);
         let mut end = compare.end(&opening(log.vault(), &log.file, &room));
         let length = log.cleartext().len() as u64;
@@ -77,19 +77,14 @@ impl Reader {
     /// does, in all that it gives and in every byte of the buffer.
     fn read(&self, compare: &mut Compare, from: u64, count: u64, out: &[u8]) -> End {
         let end = compare.end(&self.reading(from, count, out));
-        let range = compare.end(&Case {
-            call: Call::ReadRange,
-            inputs: vec![self.vault.clone(), self.file.clone()],
-            numbers: vec![from, count],
-            buffers: vec![out.to_vec()],
-        });
+        let range = compare.end(&range_read(&self.vault, &self.file, [from, count], out));
         assert!(end == range, "{from} {count}: not as the range read");
         end
     }
 }
 
 /// The call that makes a reader in this buffer.
-fn opening(vault: &[u8], file: &[u8], keys: &[u8]) -> Case {
+pub fn opening(vault: &[u8], file: &[u8], keys: &[u8]) -> Case {
     Case {
         call: Call::OpenReader,
         inputs: vec![vault.to_vec(), file.to_vec()],
@@ -98,8 +93,18 @@ fn opening(vault: &[u8], file: &[u8], keys: &[u8]) -> Case {
     }
 }
 
+/// The call that reads a range of a file with this vault.
+pub fn range_read(vault: &[u8], file: &[u8], range: [u64; 2], out: &[u8]) -> Case {
+    Case {
+        call: Call::ReadRange,
+        inputs: vec![vault.to_vec(), file.to_vec()],
+        numbers: range.to_vec(),
+        buffers: vec![out.to_vec()],
+    }
+}
+
 /// The call that reads a range of a file with these keys.
-fn reading(file: &[u8], keys: &[u8], range: [u64; 2], out: &[u8]) -> Case {
+pub fn reading(file: &[u8], keys: &[u8], range: [u64; 2], out: &[u8]) -> Case {
     Case {
         call: Call::ReaderRead,
         inputs: vec![file.to_vec(), keys.to_vec()],
@@ -114,7 +119,7 @@ const ROWS_OF_FILES: [u32; 2] = [4, 9];
 /// Fails unless no reader is made, by this row: the keys of a refused file are
 /// then those of the reader of no bytes, if there is room, and any other row
 /// leaves the buffer. Gives what stands in it.
-fn not_made(compare: &mut Compare, open: &Case, row: u32) -> Vec<u8> {
+pub fn not_made(compare: &mut Compare, open: &Case, row: u32) -> Vec<u8> {
     let mut expected = open.buffers[0].clone();
     if ROWS_OF_FILES.contains(&row) {
         if let Some(front) = expected.first_chunk_mut::<READER_KEYS>() {

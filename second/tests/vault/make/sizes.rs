@@ -56,8 +56,26 @@ pub fn range(random: &mut Random, len: usize) -> (u64, u64) {
 }
 
 /// A place at the edge of a chunk or of the text.
-fn place(random: &mut Random, len: usize) -> usize {
+pub fn place(random: &mut Random, len: usize) -> usize {
     let edge = random.below(len / CHUNK_LEN + 1) * CHUNK_LEN;
     let place = (edge + random.below(3)).saturating_sub(1);
     place.min(len)
+}
+
+/// The range, mostly; else over the end, behind it, or with numbers of any size.
+pub fn or_outside(random: &mut Random, from: u64, count: u64, len: usize) -> (u64, u64) {
+    match random.below(12) {
+        0 => (from, len as u64 - from + 1 + random.below(3) as u64),
+        1 => (random.word() >> random.below(64), count),
+        2 => (from, random.word() >> random.below(64)),
+        _ => (from, count),
+    }
+}
+
+/// The room for a range of a cleartext of this length, mostly enough.
+pub fn room(random: &mut Random, count: u64, len: usize) -> usize {
+    match (count as usize).min(len) {
+        need if random.below(8) == 0 => random.below(need + 1),
+        need => need + random.below(3),
+    }
 }

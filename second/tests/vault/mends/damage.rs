@@ -32,10 +32,7 @@ fn covering(compare: &mut Compare, combo: Combo) {
         for damaged in 0..8 {
             let is_damaged = |chunk: &usize| damaged >> chunk & 1 == 1;
             let mut file = mend.clone();
-            for chunk in (0..3).filter(is_damaged) {
-                let place = compare.random.below(sizes.chunk);
-                file = flipped(&file, sizes.header + chunk * sizes.chunk + place, 1);
-            }
+            file.buffers[0] = log.damaged(&mut compare.random, damaged);
             match (first..end).find(is_damaged) {
                 None => drop(done(compare, &log, &file)),
                 Some(chunk) => {

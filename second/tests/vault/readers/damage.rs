@@ -18,20 +18,12 @@ pub const PARTS: &[Part] = &[
 /// A range is read whatever the chunks hold that do not cover it, and is refused
 /// with the lowest covering one that is damaged.
 fn covering(compare: &mut Compare, combo: Combo) {
-    let sizes = sizes(combo);
     let log = Log::new(&mut compare.random, combo, 3 * CHUNK_LEN);
     let good = Reader::new(compare, &log);
     let out = compare.random.bytes(3 * CHUNK_LEN);
     for damaged in 0..8 {
         let is_damaged = |chunk: &usize| damaged >> chunk & 1 == 1;
-        let mut reader = good.with_file(log.file.clone());
-        for chunk in (0..3).filter(is_damaged) {
-            let start = sizes.header + chunk * sizes.chunk;
-            flip(
-                &mut reader.file[start..start + sizes.chunk],
-                &mut compare.random,
-            );
-        }
+        let reader = good.with_file(log.damaged(&mut compare.random, damaged));
         for (from, count, [first, end]) in RANGES_OF_THREE_CHUNKS {
             let bad = (first..end).find(is_damaged).map(|chunk| chunk as u64);
             let end = reader.read(compare, from, count, &out);

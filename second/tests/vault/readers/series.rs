@@ -7,6 +7,7 @@ use crate::compare::Compare;
 use crate::fault::flip;
 use crate::format::sizes;
 use crate::log::Log;
+use crate::make;
 use crate::part::{Part, Run::Each};
 use second::vault::{Combo, CHUNK_LEN};
 
@@ -16,30 +17,20 @@ pub const PARTS: &[Part] = &[
     ("readers: the same read again", Each(again)),
 ];
 
-/// A range, mostly inside; else over the end, behind it, or with numbers of any
-/// size.
+/// A range, mostly inside and short.
 fn range(random: &mut Random, len: usize) -> (u64, u64) {
     let from = random.below(len + 1);
     let count = match random.below(3) {
         0 => random.below(len - from + 1),
         _ => random.below((len - from).min(300) + 1),
     };
-    let (from, count) = (from as u64, count as u64);
-    match random.below(12) {
-        0 => (from, len as u64 - from + 1 + random.below(3) as u64),
-        1 => (random.word() >> random.below(64), count),
-        2 => (from, random.word() >> random.below(64)),
-        _ => (from, count),
-    }
+    make::or_outside(random, from as u64, count as u64, len)
 }
 
 /// Reads a random range, mostly with room for it.
 fn read(compare: &mut Compare, reader: &Reader, len: usize) -> End {
     let (from, count) = range(&mut compare.random, len);
-    let room = match (count as usize).min(len) {
-        need if compare.random.below(8) == 0 => compare.random.below(need + 1),
-        need => need + compare.random.below(3),
-    };
+    let room = make::room(&mut compare.random, count, len);
     let out = compare.random.bytes(room);
     reader.read(compare, from, count, &out)
 }

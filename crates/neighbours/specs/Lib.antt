@@ -1,0 +1,4 @@
+pub mod Neighbours
+pub mod Statements
+pub mod Demands
+pub mod Lent
