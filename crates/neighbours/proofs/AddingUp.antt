@@ -43,32 +43,32 @@ module _ (C : Codec) (sized : PlainSize C) (f : List ℕ) (a b c : ℕ) (h : a �
   inside : (out : List ℕ) → Succeeded (read a (c - a) out) → Inside z (length f) a (c - a)
   inside out w = succeeded C f a (c - a) out w .inside
 
-  module _ (first second whole : List ℕ) (r₁ : b - a ≤ length first) (r₂ : c - b ≤ length second) (r₃ : c - a ≤ length whole) where
-    pair-of : Succeeded (read a (c - a) whole) → Succeeded (read a (b - a) first) × Succeeded (read b (c - b) second)
+  module _ (out₁ out₂ out₃ : List ℕ) (r₁ : b - a ≤ length out₁) (r₂ : c - b ≤ length out₂) (r₃ : c - a ≤ length out₃) where
+    pair-of : Succeeded (read a (c - a) out₃) → Succeeded (read a (b - a) out₁) × Succeeded (read b (c - b) out₂)
     pair-of w =
-        let e = answered C f a b c h k (inside whole w) first second whole r₁ r₂ r₃ in
-        both-done (read a (b - a) first .outcome) (read b (c - b) second .outcome) (c - a) (w .0) (sym e ∙ w .1)
+        let e = answered C f a b c h k (inside out₃ w) out₁ out₂ out₃ r₁ r₂ r₃ in
+        both-done (read a (b - a) out₁ .outcome) (read b (c - b) out₂ .outcome) (c - a) (w .0) (sym e ∙ w .1)
 
-    whole-of : Succeeded (read a (b - a) first) × Succeeded (read b (c - b) second) → Succeeded (read a (c - a) whole)
+    whole-of : Succeeded (read a (b - a) out₁) × Succeeded (read b (c - b) out₂) → Succeeded (read a (c - a) out₃)
     whole-of p =
-        let s = inside-both z (length f) a b c h k (succeeded C f b (c - b) second (p .1) .inside) in
-        ((c - a) ∷ [], answered C f a b c h k s first second whole r₁ r₂ r₃ ∙ ap₂ (λ x y. both x y (c - a)) (p .0 .1) (p .1 .1))
+        let s = inside-both z (length f) a b c h k (succeeded C f b (c - b) out₂ (p .1) .inside) in
+        ((c - a) ∷ [], answered C f a b c h k s out₁ out₂ out₃ r₁ r₂ r₃ ∙ ap₂ (λ x y. both x y (c - a)) (p .0 .1) (p .1 .1))
 
-    bytes : Succeeded (read a (c - a) whole) → take (b - a) (read a (b - a) first .buffer) ++ take (c - b) (read b (c - b) second .buffer) ≡ take (c - a) (read a (c - a) whole .buffer)
+    bytes : Succeeded (read a (c - a) out₃) → take (b - a) (read a (b - a) out₁ .buffer) ++ take (c - b) (read b (c - b) out₂ .buffer) ≡ take (c - a) (read a (c - a) out₃ .buffer)
     bytes w =
         let p = pair-of w in
-        ap₂ (λ (x y : End). take (b - a) (x .buffer) ++ take (c - b) (y .buffer)) (ends a (b - a) first (p .0)) (ends b (c - b) second (p .1))
-        ∙ joined (clearOf C f) a b c h k (long (inside whole w)) first second whole
-        ∙ sym (ap (λ (e : End). take (c - a) (e .buffer)) (ends a (c - a) whole w))
+        ap₂ (λ (x y : End). take (b - a) (x .buffer) ++ take (c - b) (y .buffer)) (ends a (b - a) out₁ (p .0)) (ends b (c - b) out₂ (p .1))
+        ∙ joined (clearOf C f) a b c h k (long (inside out₃ w)) out₁ out₂ out₃
+        ∙ sym (ap (λ (e : End). take (c - a) (e .buffer)) (ends a (c - a) out₃ w))
 
   add-up : AddUp (readRange C f) a b c
-  add-up first second whole r₁ r₂ r₃ = ((whole-of first second whole r₁ r₂ r₃, pair-of first second whole r₁ r₂ r₃), bytes first second whole r₁ r₂ r₃)
+  add-up out₁ out₂ out₃ r₁ r₂ r₃ = ((whole-of out₁ out₂ out₃ r₁ r₂ r₃, pair-of out₁ out₂ out₃ r₁ r₂ r₃), bytes out₁ out₂ out₃ r₁ r₂ r₃)
 
   refused-alike : Inside z (length f) a (c - a) → RefusedAlike (readRange C f) a b c
-  refused-alike s first second whole r₁ r₂ r₃ =
-      let e = answered C f a b c h k s first second whole r₁ r₂ r₃ in
-      let x = read a (b - a) first .outcome in
-      let y = read b (c - b) second .outcome in
+  refused-alike s out₁ out₂ out₃ r₁ r₂ r₃ =
+      let e = answered C f a b c h k s out₁ out₂ out₃ r₁ r₂ r₃ in
+      let x = read a (b - a) out₁ .outcome in
+      let y = read b (c - b) out₂ .outcome in
       (λ n. e ∙ refused-first x y (c - a) n, λ d n. e ∙ refused-second x y (c - a) d n)
 
   fill-up : FillUp (readRange C f) a b c
@@ -88,7 +88,7 @@ module _ (C : Codec) (sized : PlainSize C) (f : List ℕ) (a b c : ℕ) (h : a �
           let second = ends b (c - b) (drop (b - a) begun) (pair-of out (drop (b - a) begun) out (omega arith) (room r) r w .1) in
           ap (λ (x : End). take (b - a) (x .buffer) ++ read b (c - b) (drop (b - a) (x .buffer)) .buffer) e
           ∙ ap (λ (x : End). take (b - a) begun ++ x .buffer) second
-          ∙ paged (clearOf C f) a b c h k (long (inside out w)) out
+          ∙ paged (clearOf C f) a b c h k (long (inside out w)) out r
           ∙ sym (ap (λ (x : End). x .buffer) (ends a (c - a) out w))
 
 module _ (C : Codec) (sized : PlainSize C) where
@@ -113,7 +113,7 @@ module _ (row : ℕ) where
 
   pub refusing : (Within : ℕ → ℕ → Type 0) → NeighboursAddUp (λ from count out. ended (refused row) out) Within
   refusing Within a b c h k = (
-    λ first second whole r₁ r₂ r₃. ((λ p. absurd (never first (p .0)), λ w. absurd (never whole w)), λ w. absurd (never whole w)),
+    λ out₁ out₂ out₃ r₁ r₂ r₃. ((λ p. absurd (never out₁ (p .0)), λ w. absurd (never out₃ w)), λ w. absurd (never out₃ w)),
     λ out w. absurd (never out w),
-    λ s first second whole r₁ r₂ r₃. (λ n. refl, λ d n. absurd (never first d)),
+    λ s out₁ out₂ out₃ r₁ r₂ r₃. (λ n. refl, λ d n. absurd (never out₁ d)),
   )

@@ -93,11 +93,11 @@ module _ (C : Codec) (f : List ℕ) where
     by-rows true false = refl
     by-rows true true = by-tags
 
-    pub answered : (first second whole : List ℕ) → b - a ≤ length first → c - b ≤ length second → c - a ≤ length whole
-        → readRange C f a (c - a) whole .outcome ≡ both (readRange C f a (b - a) first .outcome) (readRange C f b (c - b) second .outcome) (c - a)
-    answered first second whole r₁ r₂ r₃ =
-        answers a (c - a) whole s r₃
+    pub answered : (out₁ out₂ out₃ : List ℕ) → b - a ≤ length out₁ → c - b ≤ length out₂ → c - a ≤ length out₃
+        → readRange C f a (c - a) out₃ .outcome ≡ both (readRange C f a (b - a) out₁ .outcome) (readRange C f b (c - b) out₂ .outcome) (c - a)
+    answered out₁ out₂ out₃ r₁ r₂ r₃ =
+        answers a (c - a) out₃ s r₃
         ∙ by-rows keysRight (headerGood (headerAt z f))
         ∙ sym
-        (ap₂ (λ (x y : Outcome). both x y (c - a)) (answers a (b - a) first (inside-first z (length f) a b c h k s) r₁)
-        (answers b (c - b) second (inside-second z (length f) a b c h k s) r₂))
+        (ap₂ (λ (x y : Outcome). both x y (c - a)) (answers a (b - a) out₁ (inside-first z (length f) a b c h k s) r₁)
+        (answers b (c - b) out₂ (inside-second z (length f) a b c h k s) r₂))

@@ -75,11 +75,11 @@ module _ (C : Codec) (f : List ℕ) where
   before-end from count i v = covers-count from count i (v .0 .some) (v .0 .low) (v .0 .high)
 
   module _ (a b c : ℕ) (h : a ≤ b) (k : b ≤ c) (s : Inside z (length f) a (c - a)) where
-    abbrev z-first : Inside z (length f) a (b - a)
-    z-first = inside-first z (length f) a b c h k s
+    abbrev s-first : Inside z (length f) a (b - a)
+    s-first = inside-first z (length f) a b c h k s
 
-    abbrev z-second : Inside z (length f) b (c - b)
-    z-second = inside-second z (length f) a b c h k s
+    abbrev s-second : Inside z (length f) b (c - b)
+    s-second = inside-second z (length f) a b c h k s
 
     wrong-first : (i : ℕ) → WrongTag C f a (b - a) i → WrongTag C f a (c - a) i
     wrong-first i v = (first-covers z (length f) a b c h k s i (v .0), v .1)
@@ -94,7 +94,7 @@ module _ (C : Codec) (f : List ℕ) where
 
     -- a bad chunk of the first range is the lowest of both
     pub bad-first : bad a (b - a) < behind a (b - a) → (bad a (c - a) ≡ bad a (b - a)) × (bad a (c - a) < behind a (c - a))
-    bad-first p = let q = is-wrong a (b - a) z-first p in go q (wrong-first (bad a (b - a)) q)
+    bad-first p = let q = is-wrong a (b - a) s-first p in go q (wrong-first (bad a (b - a)) q)
       where
         go : WrongTag C f a (b - a) (bad a (b - a)) → WrongTag C f a (c - a) (bad a (b - a)) → (bad a (c - a) ≡ bad a (b - a)) × (bad a (c - a) < behind a (c - a))
         go q w =
@@ -112,7 +112,7 @@ module _ (C : Codec) (f : List ℕ) where
     -- where the first range has none, one of the second is
     pub bad-second : behind a (b - a) ≤ bad a (b - a) → bad b (c - b) < behind b (c - b) → (bad a (c - a) ≡ bad b (c - b)) × (bad a (c - a) < behind a (c - a))
     bad-second n p =
-        let w = wrong-second (bad b (c - b)) (is-wrong b (c - b) z-second p) in
+        let w = wrong-second (bad b (c - b)) (is-wrong b (c - b) s-second p) in
         let d = lowest a (c - a) (bad b (c - b)) w in
         let e = before-end a (c - a) (bad b (c - b)) w in
         let o : bad a (c - a) < behind a (c - a) = omega (arith, d, e) in

@@ -14,7 +14,7 @@ use Rattle.frame.specs.Rules.{KeySizes}
 use Rattle.frame.proofs.Rules.{length-exactly}
 use Rattle.mend_spec.specs.Statements.{Mending, after}
 use Rattle.mend_spec.proofs.Ends.{Mends}
-use Rattle.mend_spec.proofs.After.{g-length, g-header, mends-of, after-is}
+use Rattle.mend_spec.proofs.After.{g-header, mends-of, after-is, mended-rest}
 use Rattle.reader_spec.specs.Reader.{Making, readerWith, openReader}
 use Rattle.reader_spec.proofs.Making.{passes, opened-by}
 use Rattle.vault.specs.declared.record.Combo.{Combo}
@@ -98,7 +98,7 @@ module _ (v : Vault) (f : List ℕ) (from : ℕ) (new nonces : List ℕ) (keys :
   o = mends-of D 𝓛 f from new nonces m
 
   pub same-length : length g ≡ length f
-  same-length = ap length (after-is D 𝓛 f from new nonces m) ∙ g-length D 𝓛 f from new nonces (m .file-bytes) (m .new-bytes) (m .nonces-bytes) o
+  same-length = mended-rest D 𝓛 f from new nonces m .0
 
   pub same-header : headerAt (D .sizes) g ≡ headerAt (D .sizes) f
   same-header = ap (headerAt (D .sizes)) (after-is D 𝓛 f from new nonces m) ∙ g-header D 𝓛 f from new nonces (m .file-bytes) (m .new-bytes) (m .nonces-bytes) o
@@ -107,7 +107,7 @@ module _ (v : Vault) (f : List ℕ) (from : ℕ) (new nonces : List ℕ) (keys :
   unfolding headerAt
   passes-before = ((keys .enc-size, keys .mac-size), length-exactly (D .sizes) (length f) .0 (o .inside .right), o .headed)
 
-  pub passes-after : Passes v g
+  passes-after : Passes v g
   unfolding headerAt
   passes-after = (
     passes-before .0,

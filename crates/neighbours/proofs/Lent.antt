@@ -112,14 +112,14 @@ module _ (b f : List ℕ) (from : ℕ) (new nonces : List ℕ) (bytes-b : Bytes 
   row : lentRow b ≡ 0
   row = taken b f from new nonces s
 
-  left : mendLent b f from new nonces ≡ mendFile (codecOf v) f from new nonces
-  left = under b row (λ u. mendFile (codecOf u) f from new nonces) (λ r. ended (refused r) f)
+  mends-under : mendLent b f from new nonces ≡ mendFile (codecOf v) f from new nonces
+  mends-under = under b row (λ u. mendFile (codecOf u) f from new nonces) (λ r. ended (refused r) f)
 
   keyed : Keys v
   keyed = lent-keys b bytes-b (lent-size b row)
 
   mending : Mending (codecOf v) f from new nonces
-  mending = record { file-bytes = bytes-f; new-bytes = bytes-new; nonces-bytes = bytes-nonces; success = subst Succeeded left s }
+  mending = record { file-bytes = bytes-f; new-bytes = bytes-new; nonces-bytes = bytes-nonces; success = subst Succeeded mends-under s }
 
   ranges-stay : Stay (rangeLent b f) (rangeLent b g) from (length new)
   ranges-stay at count out none =
@@ -152,7 +152,7 @@ module _ (b f : List ℕ) (from : ℕ) (new nonces : List ℕ) (bytes-b : Bytes 
 pub lent-stay : LentStay
 lent-stay b f from new nonces bb bf bw bn s =
     let e : mendFile (codecOf (vaultIn b)) f from new nonces .buffer ≡ mendLent b f from new nonces .buffer =
-    sym (ap (λ (x : End). x .buffer) (left b f from new nonces bb bf bw bn s)) in
+    sym (ap (λ (x : End). x .buffer) (mends-under b f from new nonces bb bf bw bn s)) in
     subst
     (λ (g : List ℕ).
     Stay (rangeLent b f) (rangeLent b g) from (length new)
