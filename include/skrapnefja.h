@@ -218,7 +218,8 @@ uint32_t skrapnefja_open_file(const uint8_t *vault, size_t vault_len,
  * chunk that the range covers are found good. `from` and `count` may be any numbers. A range of no bytes looks at the header
  * only.
  * Neighbouring reads add up, also those through a reader: with room, the reads from a to b and from b to c both succeed exactly when
- * the read from a to c does, and give its bytes. Where c is inside, that one is refused as the first of the two is that is refused.
+ * the read from a to c does, and give its bytes. Where c is not behind the end of the cleartext, the read from a to c is refused
+ * exactly when one of the two is, by the row and the chunk number of the first that is.
  * Rows 1, 17, 4, 6, 7, 9, 10.
  */
 uint32_t skrapnefja_read_range(const uint8_t *vault, size_t vault_len,
@@ -229,8 +230,9 @@ uint32_t skrapnefja_read_range(const uint8_t *vault, size_t vault_len,
  * Mends a file in place: replaces bytes of its cleartext by as many new ones, the first of them at place `from`, counted from 0. The
  * length stays. The chunks that the range covers are sealed again, each with its lent nonce, once the header and all of them are
  * found good. No other byte of the file changes, and a chunk that is not covered may be bad, and stays so. `from` may be any number.
- * A range of no bytes covers no chunk, looks at the header only, and changes nothing. A read that has none of the replaced bytes
- * returns and writes after the mend what it did before it.
+ * A range of no bytes covers no chunk, looks at the header only, and changes nothing. After a mend that succeeded, a read that has
+ * none of the replaced bytes, under the same vault or through a reader made for this file under it, returns and writes what it did
+ * before.
  * `nonces` has 12 or 16 bytes for each covered chunk, in order: for SKRAPNEFJA_COVERING_CHUNKS(from, new_bytes_len) of them, the first
  * of which is number from / 32,768, rounded down. Row 1 counts them so, also where the range is not inside. Row 8 is given if two of
  * the nonces are equal, or if one is that of a chunk now in the file, covered or not, good or not. The nonce of the header does not

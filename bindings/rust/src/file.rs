@@ -63,8 +63,8 @@ impl Vault {
     ///
     /// Neighbouring reads add up: with room, those from a to b and from b to c
     /// both succeed exactly when that from a to c does, and give its bytes. Where
-    /// c is inside, that one is refused as the first of the two is that is
-    /// refused.
+    /// c is not behind the end of the cleartext, the one from a to c is refused
+    /// exactly when one of the two is, as the first that is, with its chunk.
     pub fn read_range(
         &self,
         file: &[u8],
@@ -83,9 +83,10 @@ impl Vault {
     /// length stays. The chunks that have some of these bytes are sealed again,
     /// each with its nonce, once the header and all of them are found good. No
     /// other byte of the file changes, and the other chunks may be bad. Without
-    /// new bytes only the header is looked at, and nothing changes. A read that
-    /// has none of the replaced bytes ends as before the mend, with the same
-    /// answer and the same bytes.
+    /// new bytes only the header is looked at, and nothing changes. After a mend
+    /// that succeeded, a read with this vault, or through a reader that it makes
+    /// of the file, that has none of the replaced bytes ends as before, with the
+    /// same answer and the same bytes.
     ///
     /// The nonces are one after the other, one for each of these chunks:
     /// [`covering_chunks`] tells how many. They must differ from each other and
