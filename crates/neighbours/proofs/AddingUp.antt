@@ -6,7 +6,7 @@ use Prim.Native.Nat.{ℕ, _-_, _≤_}
 use native.Mathlib.Omega.{arith}
 use lib.ListN.{length, take, drop, length-drop}
 use Rattle.octets.specs.Bytes.{filled}
-use Rattle.octets.specs.Rows.{done, refused, End, ended, Succeeded}
+use Rattle.octets.specs.Rows.{Outcome, done, refused, refusedAt, End, ended, Succeeded}
 use Rattle.frame.specs.Layout.{clearLength, Inside}
 use Rattle.frame.specs.Frame.{Codec, headIn, clearOf, readRange}
 use Rattle.frame.specs.Laws.{PlainSize}
@@ -49,10 +49,10 @@ module _ (C : Codec) (sized : PlainSize C) (f : List ℕ) (a b c : ℕ) (h : a �
         let e = answered C f a b c h k (inside out₃ w) out₁ out₂ out₃ r₁ r₂ r₃ in
         both-done (read a (b - a) out₁ .outcome) (read b (c - b) out₂ .outcome) (c - a) (w .0) (sym e ∙ w .1)
 
-    whole-of : Succeeded (read a (b - a) out₁) × Succeeded (read b (c - b) out₂) → Succeeded (read a (c - a) out₃)
-    whole-of p =
-        let s = inside-both z (length f) a b c h k (succeeded C f b (c - b) out₂ (p .1) .inside) in
-        ((c - a) ∷ [], answered C f a b c h k s out₁ out₂ out₃ r₁ r₂ r₃ ∙ ap₂ (λ x y. both x y (c - a)) (p .0 .1) (p .1 .1))
+    whole-of : Succeeded (read a (b - a) out₁) → Succeeded (read b (c - b) out₂) → Succeeded (read a (c - a) out₃)
+    whole-of x y =
+        let s = inside-both z (length f) a b c h k (succeeded C f b (c - b) out₂ y .inside) in
+        ((c - a) ∷ [], answered C f a b c h k s out₁ out₂ out₃ r₁ r₂ r₃ ∙ ap₂ (λ o q. both o q (c - a)) (x .1) (y .1))
 
     bytes : Succeeded (read a (c - a) out₃) → take (b - a) (read a (b - a) out₁ .buffer) ++ take (c - b) (read b (c - b) out₂ .buffer) ≡ take (c - a) (read a (c - a) out₃ .buffer)
     bytes w =
@@ -62,7 +62,7 @@ module _ (C : Codec) (sized : PlainSize C) (f : List ℕ) (a b c : ℕ) (h : a �
         ∙ sym (ap (λ (e : End). take (c - a) (e .buffer)) (ends a (c - a) out₃ w))
 
   add-up : AddUp (readRange C f) a b c
-  add-up out₁ out₂ out₃ r₁ r₂ r₃ = ((whole-of out₁ out₂ out₃ r₁ r₂ r₃, pair-of out₁ out₂ out₃ r₁ r₂ r₃), bytes out₁ out₂ out₃ r₁ r₂ r₃)
+  add-up out₁ out₂ out₃ r₁ r₂ r₃ = ((λ p. whole-of out₁ out₂ out₃ r₁ r₂ r₃ (p .0) (p .1), pair-of out₁ out₂ out₃ r₁ r₂ r₃), bytes out₁ out₂ out₃ r₁ r₂ r₃)
 
   refused-alike : Inside z (length f) a (c - a) → RefusedAlike (readRange C f) a b c
   refused-alike s out₁ out₂ out₃ r₁ r₂ r₃ =
@@ -73,23 +73,16 @@ module _ (C : Codec) (sized : PlainSize C) (f : List ℕ) (a b c : ℕ) (h : a �
 
   fill-up : FillUp (readRange C f) a b c
   fill-up out w =
+      let t = long (inside out w) in
       let r = succeeded C f a (c - a) out w .roomy in
-      go r (ends a (b - a) out (pair-of out out out (omega arith) (omega arith) r w .0))
-    where
-      begun : List ℕ
-      begun = filled (drop a (clearOf C f)) (b - a) out
-
-      room : c - a ≤ length out → c - b ≤ length (drop (b - a) begun)
-      room r = rw (spared (drop a (clearOf C f)) out (b - a) (room-first (clearOf C f) a b c h k (long (inside out w))), length-drop) (omega arith)
-
-      go : c - a ≤ length out → read a (b - a) out ≡ ended (done ((b - a) ∷ [])) begun
-          → take (b - a) (read a (b - a) out .buffer) ++ read b (c - b) (drop (b - a) (read a (b - a) out .buffer)) .buffer ≡ read a (c - a) out .buffer
-      go r e =
-          let second = ends b (c - b) (drop (b - a) begun) (pair-of out (drop (b - a) begun) out (omega arith) (room r) r w .1) in
-          ap (λ (x : End). take (b - a) (x .buffer) ++ read b (c - b) (drop (b - a) (x .buffer)) .buffer) e
-          ∙ ap (λ (x : End). take (b - a) begun ++ x .buffer) second
-          ∙ paged (clearOf C f) a b c h k (long (inside out w)) out r
-          ∙ sym (ap (λ (x : End). x .buffer) (ends a (c - a) out w))
+      let begun = filled (drop a (clearOf C f)) (b - a) out in
+      let room : c - b ≤ length (drop (b - a) begun) = rw (spared (drop a (clearOf C f)) out (b - a) (room-first (clearOf C f) a b c h k t), length-drop) (omega arith) in
+      let first = ends a (b - a) out (pair-of out out out (omega arith) (omega arith) r w .0) in
+      let second = ends b (c - b) (drop (b - a) begun) (pair-of out (drop (b - a) begun) out (omega arith) room r w .1) in
+      ap (λ (x : End). take (b - a) (x .buffer) ++ read b (c - b) (drop (b - a) (x .buffer)) .buffer) first
+      ∙ ap (λ (x : End). take (b - a) begun ++ x .buffer) second
+      ∙ paged (clearOf C f) a b c h k t out r
+      ∙ sym (ap (λ (x : End). x .buffer) (ends a (c - a) out w))
 
 module _ (C : Codec) (sized : PlainSize C) where
   pub ranges-add-up : RangesAddUp C
@@ -117,3 +110,12 @@ module _ (row : ℕ) where
     λ out w. absurd (never out w),
     λ s out₁ out₂ out₃ r₁ r₂ r₃. (λ n. refl, λ d n. absurd (never out₁ d)),
   )
+
+-- A way that goes by the answer of a making: another way where that is a success, and else row 4 for every read.
+pub by-making : (Within : ℕ → ℕ → Type 0) (read other : Read) (made : Outcome)
+    → ((l : List ℕ) × (made ≡ done l) → (from count : ℕ) (out : List ℕ) → read from count out ≡ other from count out)
+    → (((l : List ℕ) × (made ≡ done l) → ⊥) → (from count : ℕ) (out : List ℕ) → read from count out ≡ ended (refused 4) out)
+    → NeighboursAddUp other Within → NeighboursAddUp read Within
+by-making Within read other (done l) s n t = alike Within read other (s (l, refl)) t
+by-making Within read other (refused row) s n t = alike Within read (λ from count out. ended (refused 4) out) (n (λ x. no-success (refused row) tt (x .0) (x .1))) (refusing 4 Within)
+by-making Within read other (refusedAt row i) s n t = alike Within read (λ from count out. ended (refused 4) out) (n (λ x. no-success (refusedAt row i) tt (x .0) (x .1))) (refusing 4 Within)

@@ -42,7 +42,7 @@ part-stays new clear at from count w v none = ext-getD 0 p q (length-take-le cou
     stays k u =
         ⊎-elim (λ (x : at ≤ from + k).
         ⊎-elim (λ (y : at + length new ≤ from + k). getD-behind new clear at (omega arith) (from + k) y)
-        (λ (y : from + k < at + length new). absurd (none (from + k) (omega arith) (omega arith) x y))
+        (λ (y : from + k < at + length new). absurd (none (from + k) (omega arith) (omega arith) (omega (arith, x)) (omega (arith, y))))
         (le-or-lt (at + length new) (from + k)))
         (λ (x : from + k < at). getD-ahead new clear at (from + k) x (omega arith))
         (le-or-lt at (from + k))

@@ -1,12 +1,12 @@
 -- Neighbouring reads add up, and reads beside a mended range stay, for every record and every reader.
 -- Assumes nothing.
-use mathlib.Core.Path.{_≡_, refl, sym, ap, _∙_, subst}
+use mathlib.Core.Path.{_≡_, sym, ap, _∙_, subst}
 use mathlib.Core.Bool.{true}
 use mathlib.Core.Logic.{_↔_}
 use mathlib.Core.List.{List, [], _∷_}
 use Prim.Native.Nat.{ℕ}
 use lib.ListN.{length}
-use Rattle.octets.specs.Rows.{Outcome, done, refused, refusedAt, ended}
+use Rattle.octets.specs.Rows.{done}
 use Rattle.frame.specs.Layout.{Sizes, clearLength, rightLength, headerAt, Inside}
 use Rattle.frame.specs.Frame.{Codec, readRange}
 use Rattle.frame.specs.Laws.{Laws}
@@ -25,11 +25,10 @@ use Rattle.vault.proofs.Combos.{sized-exactly, chunk-laws, laws, two-combos}
 use Rattle.file_reader.specs.Kept.{Kept, keysWith, macFor, openKept, readKept}
 use Rattle.file_reader.specs.Demands.{Passes}
 use Rattle.file_reader.proofs.Demands.{holds, reads-as-range}
-use Rattle.neighbours.specs.Neighbours.{Read, NeighboursAddUp}
+use Rattle.neighbours.specs.Neighbours.{NeighboursAddUp}
 use Rattle.neighbours.specs.Statements.{RangesAddUp, RangesStay}
 use Rattle.neighbours.specs.Demands.{ReadsAddUp, KeptStay, NeighboursDemand}
-use Rattle.neighbours.proofs.Answers.{Refusal, no-success}
-use Rattle.neighbours.proofs.AddingUp.{ranges-add-up, alike, through-add-up, refusing}
+use Rattle.neighbours.proofs.AddingUp.{ranges-add-up, through-add-up, by-making}
 use Rattle.neighbours.proofs.Beside.{ranges-stay}
 
 -- ---- adding up
@@ -52,32 +51,16 @@ module _ (v : Vault) (f : List ℕ) where
   abbrev C : Codec
   C = codecOf v
 
-  abbrev Within : ℕ → ℕ → Type 0
-  Within = Inside (sizesOf (v .combo)) (length f)
-
-  abbrev through : Read
-  through = readKept (openKept v f .keys) (openKept v f .file)
-
   sized : (C .keysRight ≡ true) ↔ KeySizes (v .enc) (v .mac)
   sized = sized-exactly (v .combo) (v .enc) (v .mac)
 
-  not-passed : (o : Outcome) → openReader C f .outcome ≡ o → Refusal o → Passes v f → ⊥
-  not-passed o e t p = no-success o t _ (sym e ∙ ap (λ (m : Making). m .outcome) (opened-by C (KeySizes (v .enc) (v .mac)) sized f p))
-
-  by-range : Passes v f → NeighboursAddUp through Within
-  by-range p = alike Within through (readRange C f) (λ from count out. reads-as-range v f from count out .0 p) (ranges-sized v f)
-
-  by-row-4 : (Passes v f → ⊥) → NeighboursAddUp through Within
-  by-row-4 n = alike Within through (λ from count out. ended (refused 4) out) (λ from count out. reads-as-range v f from count out .1 n) (refusing 4 Within)
-
-  made : NeighboursAddUp through Within
+  made : NeighboursAddUp (readKept (openKept v f .keys) (openKept v f .file)) (Inside (sizesOf (v .combo)) (length f))
   unfolding openReader
-  made = go (openReader C f .outcome) refl
-    where
-      go : (o : Outcome) → openReader C f .outcome ≡ o → NeighboursAddUp through Within
-      go (done l) e = by-range (passes C (KeySizes (v .enc) (v .mac)) sized f l e)
-      go (refused row) e = by-row-4 (not-passed (refused row) e tt)
-      go (refusedAt row i) e = by-row-4 (not-passed (refusedAt row i) e tt)
+  made =
+      by-making (Inside (sizesOf (v .combo)) (length f)) _ (readRange C f) (openReader C f .outcome)
+      (λ s from count out. reads-as-range v f from count out .0 (passes C (KeySizes (v .enc) (v .mac)) sized f (s .0) (s .1)))
+      (λ n from count out. reads-as-range v f from count out .1 (λ p. n (_, ap (λ (m : Making). m .outcome) (opened-by C (KeySizes (v .enc) (v .mac)) sized f p))))
+      (ranges-sized v f)
 
 pub reads-add-up : ReadsAddUp
 reads-add-up = (ranges, λ k f. held (k .combo) (k .content) (k .mac) f, made)

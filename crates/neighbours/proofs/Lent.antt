@@ -4,11 +4,12 @@ use mathlib.Core.Path.{_≡_, refl, sym, ap, _∙_, subst}
 use mathlib.Core.Bool.{Bool, true, false, cond}
 use mathlib.Core.List.{List, []}
 use Prim.Native.Nat.{ℕ, _≤_}
+use native.Mathlib.Omega.{arith}
 use borrow.Author.Tests.{eqb-true, eqb-false}
 use lib.Dec.{eqb, leb}
 use lib.ListN.{length, take, getD}
 use Rattle.octets.specs.Bytes.{Bytes}
-use Rattle.octets.specs.Rows.{Outcome, done, refused, refusedAt, End, ended, Succeeded}
+use Rattle.octets.specs.Rows.{done, refused, End, ended, Succeeded}
 use Rattle.frame.specs.Layout.{Inside}
 use Rattle.frame.specs.Frame.{readRange}
 use Rattle.mend_spec.specs.Mend.{mendFile}
@@ -24,10 +25,10 @@ use Rattle.file_reader.proofs.Combos.{none-held}
 use Rattle.file_reader.proofs.Demands.{holds}
 use Rattle.reader_bytes.specs.ReaderBytes.{keysIn, fileIn, storeReaderRows, storeReader, storeLent, readLent}
 use Rattle.reader_bytes.proofs.Made.{store-rows, made-reads}
-use Rattle.neighbours.specs.Neighbours.{Read, NeighboursAddUp, Stay}
+use Rattle.neighbours.specs.Neighbours.{NeighboursAddUp, Stay}
 use Rattle.neighbours.specs.Lent.{rangeLent, mendLent, LentAddUp, LentStay}
 use Rattle.neighbours.proofs.Answers.{no-success}
-use Rattle.neighbours.proofs.AddingUp.{alike, refusing}
+use Rattle.neighbours.proofs.AddingUp.{alike, refusing, by-making}
 use Rattle.neighbours.proofs.Demands.{ranges-sized, reads-add-up, same-length, same-header, passes-before, stay, kept-stay}
 
 -- ---- adding up
@@ -54,27 +55,16 @@ through b f = go (eqb (length b) 65) (leb (getD b 64 0) 2) (eqb (getD b 64 0) 0)
     go true false none = refusing 17 Within
     go false known none = refusing 1 Within
 
--- through the reader that was made for f, or the zeros that a refusal left
-module _ (b f keys : List ℕ) (l : length b ≡ 66) (k : KnownCombo (getD b 64 0)) (room : 65 ≤ length keys) where
-  abbrev Inner : ℕ → ℕ → Type 0
-  Inner = Inside (sizesOf (vaultIn b .combo)) (length f)
-
-  abbrev read : Read
-  read = readLent f (take 65 (storeLent b f keys .buffer))
-
-  none : (Succeeded (storeLent b f keys) → ⊥) → NeighboursAddUp read Inner
-  none n = alike Inner read (λ from count out. ended (refused 4) out) (λ from count out. made-reads b f keys l k room f from count out .1 n) (refusing 4 Inner)
-
-  made : NeighboursAddUp read Inner
-  made = go (storeLent b f keys .outcome) refl
-    where
-      go : (o : Outcome) → storeLent b f keys .outcome ≡ o → NeighboursAddUp read Inner
-      go (done m) e = alike Inner read (rangeLent b f) (λ from count out. made-reads b f keys l k room f from count out .0 (m, e) refl) (ranges b f)
-      go (refused row) e = none (λ s. no-success (refused row) tt (s .0) (sym e ∙ s .1))
-      go (refusedAt row i) e = none (λ s. no-success (refusedAt row i) tt (s .0) (sym e ∙ s .1))
-
 pub lent-add-up : LentAddUp
-lent-add-up = (ranges, through, made)
+lent-add-up = (
+  ranges,
+  through,
+  λ b f keys l k room.
+      by-making (Inside (sizesOf (vaultIn b .combo)) (length f)) _ (rangeLent b f) (storeLent b f keys .outcome)
+      (λ s from count out. made-reads b f keys l k room f from count out .0 s refl)
+      (λ n from count out. made-reads b f keys l k room f from count out .1 n)
+      (ranges b f),
+)
 
 -- ---- beside a mend
 
@@ -151,13 +141,9 @@ module _ (b f : List ℕ) (from : ℕ) (new nonces : List ℕ) (bytes-b : Bytes 
 
 pub lent-stay : LentStay
 lent-stay b f from new nonces bb bf bw bn s =
-    let e : mendFile (codecOf (vaultIn b)) f from new nonces .buffer ≡ mendLent b f from new nonces .buffer =
-    sym (ap (λ (x : End). x .buffer) (mends-under b f from new nonces bb bf bw bn s)) in
-    subst
-    (λ (g : List ℕ).
-    Stay (rangeLent b f) (rangeLent b g) from (length new)
-    × ((keys : List ℕ) → storeLent b g keys ≡ storeLent b f keys)
-    × ((keys again : List ℕ) → 65 ≤ length keys → 65 ≤ length again
-    → Stay (readLent f (take 65 (storeLent b f keys .buffer))) (readLent g (take 65 (storeLent b g again .buffer))) from (length new)))
-    e
-    (ranges-stay b f from new nonces bb bf bw bn s, stores-stay b f from new nonces bb bf bw bn s, through-stay b f from new nonces bb bf bw bn s)
+    let e = ap (λ (x : End). x .buffer) (mends-under b f from new nonces bb bf bw bn s) in (
+      λ at count out none. ap (λ (x : List ℕ). rangeLent b x at count out) e ∙ ranges-stay b f from new nonces bb bf bw bn s at count out none,
+      λ keys. ap (λ (x : List ℕ). storeLent b x keys) e ∙ stores-stay b f from new nonces bb bf bw bn s keys,
+      λ keys again r₁ r₂ at count out none.
+          ap (λ (x : List ℕ). readLent x (take 65 (storeLent b x again .buffer)) at count out) e ∙ through-stay b f from new nonces bb bf bw bn s keys again (omega (arith, r₁)) (omega (arith, r₂)) at count out none,
+    )
