@@ -14,7 +14,7 @@ use crate::rotate::{right8, right16, right24};
 use crate::round_table::{entry, sub};
 use octets::word::{byte0, byte1, byte2, byte3, join, word_at};
 
-#[derive(Drop)]
+#[derive(Clone, Copy)]
 pub struct Block {
     pub a: u32,
     pub b: u32,

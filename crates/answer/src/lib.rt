@@ -5,7 +5,7 @@ ghost use Rattle.answer.specs.Meaning.{row};
 
 /// Why a call was refused, by rows 1 to 18 and 20. `Text` has the place where the text is broken, and `Chunk` the number of the chunk. Row 13 is
 /// `Segment`, with the place in the label, where a segment is broken, and `Label` otherwise.
-#[derive(Drop)]
+#[derive(Clone, Copy)]
 pub enum Refusal {
     KeyOrNonceSize,
     DirectoryId,
@@ -30,14 +30,14 @@ pub enum Refusal {
 }
 
 /// Done, with the length written or asked for; or refused.
-#[derive(Drop)]
+#[derive(Clone, Copy)]
 pub enum Answer {
     Done(usize),
     Refused(Refusal),
 }
 
 /// What the header opener answers, and beside it the eight reserved bytes of the header; eight zeros beside a refusal.
-#[derive(Drop)]
+#[derive(Clone, Copy)]
 pub struct HeaderAnswer {
     pub answer: Answer,
     pub reserved: [u8; 8],
@@ -45,7 +45,7 @@ pub struct HeaderAnswer {
 
 /// `Plain`: the full name is stored, with its length. `Shortened`: its hash name is stored, with the lengths of the hash name and of the
 /// full name. Or refused.
-#[derive(Drop)]
+#[derive(Clone, Copy)]
 pub enum NameAnswer {
     Plain(usize),
     Shortened(usize, usize),

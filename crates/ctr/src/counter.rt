@@ -19,7 +19,7 @@ fn after32(first: Block, i: usize) -> Block
 }
 
 // A block as a number of 128 bits, in two halves.
-#[derive(Drop)]
+#[derive(Clone, Copy)]
 struct Halves {
     high: u64,
     low: u64,

@@ -10,7 +10,7 @@ use crate::alphabet::{leading, letter_of, letters, value_at, value_of, values};
 use crate::broken::stop_from;
 
 // How many bytes a text stands for, or the place where it is broken.
-#[derive(Drop)]
+#[derive(Clone, Copy)]
 pub enum Measure {
     Accepted(usize),
     Refused(usize),

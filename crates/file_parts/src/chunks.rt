@@ -20,7 +20,7 @@ fn end_of(start: usize, full: usize, l: usize) -> usize
 }
 
 // Where a chunk starts in a file, and where it ends.
-#[derive(Drop)]
+#[derive(Clone, Copy)]
 pub struct Span {
     pub start: usize,
     pub end: usize,

@@ -16,14 +16,14 @@ use answer::Answer;
 use vault::record::Vault;
 
 /// The bytes of a file, and its keys. Any value of this type is a reader.
-#[derive(Drop)]
+#[derive(Clone, Copy)]
 pub struct Reader<'a> {
     pub file: &'a [u8],
     pub keys: ReaderKeys,
 }
 
 /// What the making of a reader answers, and beside it the reader; the reader of no bytes beside a refusal.
-#[derive(Drop)]
+#[derive(Clone, Copy)]
 pub struct Opened<'a> {
     pub answer: Answer,
     pub reader: Reader<'a>,

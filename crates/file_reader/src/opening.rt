@@ -12,7 +12,7 @@ use vault::lengths::{clear_length, right_length};
 use vault::record::{Combo, Vault};
 
 /// What the making of a reader answers, and the keys that the reader holds.
-#[derive(Drop)]
+#[derive(Clone, Copy)]
 pub struct Opening {
     pub answer: Answer,
     pub keys: ReaderKeys,

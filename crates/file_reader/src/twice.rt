@@ -9,7 +9,7 @@ use answer::Answer;
 use vault::record::Vault;
 
 /// What two reads through one reader answer.
-#[derive(Drop)]
+#[derive(Clone, Copy)]
 pub struct TwoAnswers {
     pub first: Answer,
     pub second: Answer,

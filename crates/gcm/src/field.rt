@@ -5,7 +5,7 @@ ghost use Rattle.gcm.specs.Field as spec;
 ghost use Rattle.gcm.specs.Elements.{value};
 
 // A block of 128 bits: the first 64, and the last 64.
-#[derive(Drop)]
+#[derive(Clone, Copy)]
 pub struct Element {
     pub hi: u64,
     pub lo: u64,

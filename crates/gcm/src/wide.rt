@@ -8,7 +8,7 @@ ghost use Rattle.gcm.specs.Digits.{nexts};
 use crate::field::{Element, add};
 
 // 256 bits, the first 64 in a.
-#[derive(Drop)]
+#[derive(Clone, Copy)]
 pub struct Wide {
     pub a: u64,
     pub b: u64,

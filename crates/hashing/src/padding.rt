@@ -6,7 +6,7 @@ use octets::slice::copy_at;
 use octets::word::split_eight;
 
 // The first `length` bytes are the padding.
-#[derive(Drop)]
+#[derive(Clone, Copy)]
 pub struct Padding {
     pub bytes: [u8; 72],
     pub length: usize,

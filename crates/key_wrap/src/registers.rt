@@ -6,7 +6,7 @@ ghost use Rattle.key_wrap.specs.RegisterBytes.{bytes};
 
 use aes::block::{Block, block_at, equal};
 
-#[derive(Drop)]
+#[derive(Clone, Copy)]
 pub struct Registers {
     pub a: u32,
     pub b: u32,

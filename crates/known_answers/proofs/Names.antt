@@ -16,9 +16,9 @@ use Rattle.siv.specs.Siv.{xorend, s2v_last, s2v_from, s2v, counter_of, crypt, se
 use Rattle.hashing.specs.Operations.{ch, maj}
 use Rattle.hashing.specs.Schedule.{extended}
 use Rattle.hashing.specs.Message.{padding, padded, hash_from, digest}
-use Rattle.sha1.specs.Operations.{rotl, parity}
-use Rattle.sha1.specs.Compression.{step_function, step_constant, schedule, step, steps, added, compress}
-use Rattle.sha1.specs.Message.{initial, sha1}
+use Rattle.sha1_hash.specs.Operations.{rotl, parity}
+use Rattle.sha1_hash.specs.Compression.{step_function, step_constant, schedule, step, steps, added, compress}
+use Rattle.sha1_hash.specs.Message.{initial, sha1}
 use Rattle.encoding.specs.Base32 as base32
 use Rattle.encoding.specs.Base64url as base64url
 use Rattle.utf8.specs.Utf8.{utf8_1, utf8_2, utf8_3, utf8_4, well_formed}

@@ -12,8 +12,8 @@ use Rattle.utf8.specs.Character.{size, character}
 use Rattle.encoding.specs.Base64url as base64url
 use Rattle.encoding.specs.Base64url.{octets, canonical, alphabet, place, value, known, pad_length, body, accepted, decoded}
 use Rattle.threshold.specs.Threshold.{threshold_right}
-use Rattle.json.specs.Json.{byte, ws, word, digits, some_digits, minus, int, frac, sign, exp, number, unescaped, hex_digit, hex_digits, escaped, char, chars, string, next, opened, nested, value_by, elements_by, members_by, read_part, read_value}
-use Rattle.json.specs.Members.{decimal_from, number_of, text_of, value_of, members_from, object_from, ended, object_of, given, one_text, one_whole}
+use Rattle.json_grammar.specs.Json.{byte, ws, word, digits, some_digits, minus, int, frac, sign, exp, number, unescaped, hex_digit, hex_digits, escaped, char, chars, string, next, opened, nested, value_by, elements_by, members_by, read_part, read_value}
+use Rattle.json_grammar.specs.Members.{decimal_from, number_of, text_of, value_of, members_from, object_from, ended, object_of, given, one_text, one_whole}
 use Rattle.hashing.specs.Operations.{ch, maj}
 use Rattle.hashing.specs.Schedule.{extended}
 use Rattle.hashing.specs.Message.{padding, padded, hash_from, digest}

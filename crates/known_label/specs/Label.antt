@@ -3,7 +3,7 @@
 use Rattle.std.specs.Prelude.{ℕ, List, [], ◌∷◌, ◌++◌, ◌≡◌}
 use Rattle.octets.specs.BigEndian.{be}
 use Rattle.octets.specs.Rows.{done, refused}
-use Rattle.json.specs.Quoted.{ascii}
+use Rattle.json_grammar.specs.Quoted.{ascii}
 use Rattle.label_spec.specs.Label.{open_label}
 use Rattle.label_spec.specs.Examples.{distinct_signed, distinct_label, short_header}
 

@@ -10,8 +10,8 @@ use Rattle.utf8.specs.Character.{size, character}
 use Rattle.encoding.specs.Base64url as base64url
 use Rattle.encoding.specs.Base64url.{octets, canonical, alphabet, place, value, known, pad_length, body, accepted, decoded}
 use Rattle.encoding.specs.Broken.{fewest_bytes, fits, stop_from, stop, broken_at}
-use Rattle.json.specs.Json.{byte, ws, word, digits, some_digits, minus, int, frac, sign, exp, number, unescaped, hex_digit, hex_digits, escaped, char, chars, string, next, opened, nested, value_by, elements_by, members_by, read_part, read_value}
-use Rattle.json.specs.Members.{decimal_from, number_of, text_of, value_of, members_from, object_from, ended, object_of, given, one_text, one_whole}
+use Rattle.json_grammar.specs.Json.{byte, ws, word, digits, some_digits, minus, int, frac, sign, exp, number, unescaped, hex_digit, hex_digits, escaped, char, chars, string, next, opened, nested, value_by, elements_by, members_by, read_part, read_value}
+use Rattle.json_grammar.specs.Members.{decimal_from, number_of, text_of, value_of, members_from, object_from, ended, object_of, given, one_text, one_whole}
 use Rattle.label_spec.specs.Label.{dots, until_dot, header_part, payload_part, signature_part, signed_part, three_parts, segments_right, payload_start, signature_start, broken_segment, alg_of, payload_of, reading_of, reading, said, unreadable, open_label_rows, open_label}
 use Rattle.label_spec.specs.Examples.{Gives, GivesNone, headers, no_headers, payloads, no_payloads, labels, no_labels, FirstRows, Row13, places, Examples}
 

@@ -10,7 +10,7 @@ use Rattle.octets.proofs.Rows.{done_none, none_answers, Met, met_exactly}
 use Rattle.hmac.specs.Hmac.{hmac_sha256}
 use Rattle.hmac.proofs.Laws.{mac-bytes}
 use Rattle.threshold.specs.Threshold.{ThresholdFits}
-use Rattle.json.specs.Members.{text, whole}
+use Rattle.json_grammar.specs.Members.{text, whole}
 use Rattle.label_spec.specs.Label.{hs256, siv_gcm_name, siv_ctrmac_name, combo_number, Reading, said, open_label_rows, open_label}
 use Rattle.label_spec.specs.Rules.{signed_text, label_text, Reads, Unsigned, open_label_rules}
 use Rattle.label_spec.specs.Statements.{Opens}

@@ -4,7 +4,7 @@ use Rattle.std.specs.Prelude.{ℕ, ◌≡◌, Bool, true, false, List, [], ◌�
 use Rattle.std.proofs.Math.Option.{Option, none, some}
 use Rattle.octets.specs.BigEndian.{be}
 use Rattle.octets.specs.Rows.{refused}
-use Rattle.json.specs.Quoted.{ascii}
+use Rattle.json_grammar.specs.Quoted.{ascii}
 use Rattle.label_spec.specs.Label.{hs256, siv_gcm_name, siv_ctrmac_name, Reading, alg_of, payload_of, reading, row13, open_label}
 
 -- For each text f gives what stands beside it.

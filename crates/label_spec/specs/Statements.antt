@@ -6,8 +6,8 @@ use Rattle.octets.specs.Bytes.{Bytes}
 use Rattle.octets.specs.Rows.{done, refused, refused_at, number, AnswersBy, numbers}
 use Rattle.hmac.specs.Hmac.{hmac_sha256}
 use Rattle.threshold.specs.Threshold.{ThresholdFits}
-use Rattle.json.specs.Members.{text, whole, Member, given}
-use Rattle.json.specs.Objects.{ObjectText}
+use Rattle.json_grammar.specs.Members.{text, whole, Member, given}
+use Rattle.json_grammar.specs.Objects.{ObjectText}
 use Rattle.label_spec.specs.Label.{alg_name, format_name, combo_name, threshold_name, hs256, siv_gcm_name, siv_ctrmac_name, Reading, combo_number, reading, said, open_label}
 use Rattle.label_spec.specs.Rules.{signed_text, label_text, Reads, Unsigned, BrokenSegment, open_label_rules}
 

@@ -16,8 +16,8 @@ use Rattle.aes_spec.proofs.ByteStrings.{aes-bytes}
 use Rattle.aes.proofs.Ciphers.{length-aes}
 use Rattle.siv.specs.Siv as siv
 use Rattle.siv.proofs.Laws.{length-s2v, length-seal, length-plain, sealed-opens, opened_was_sealed, keeps_bytes}
-use Rattle.sha1.specs.Message.{sha1}
-use Rattle.sha1.proofs.Laws.{twenty_bytes}
+use Rattle.sha1_hash.specs.Message.{sha1}
+use Rattle.sha1_hash.proofs.Laws.{twenty_bytes}
 use Rattle.encoding.specs.Base64url as base64url
 use Rattle.encoding.proofs.Laws.{encoded_decodes, decoded_was_encoded, encoded-length}
 use Rattle.encoding.proofs.Quintets.{base32_length}

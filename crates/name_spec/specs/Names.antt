@@ -6,7 +6,7 @@ use Rattle.octets.specs.Bytes.{same}
 use Rattle.utf8.specs.ProperText.{proper_text}
 use Rattle.aes_spec.specs.Cipher.{aes}
 use Rattle.siv.specs.Siv as siv
-use Rattle.sha1.specs.Message.{sha1}
+use Rattle.sha1_hash.specs.Message.{sha1}
 use Rattle.encoding.specs.Base32 as base32
 use Rattle.encoding.specs.Base64url as base64url
 

@@ -17,7 +17,7 @@ use octets::slice::equal;
 const LEAST: usize = 17;
 
 /// The length of the name in a text, or the place where the text is broken.
-#[derive(Drop)]
+#[derive(Clone, Copy)]
 pub enum Form {
     Right(usize),
     Broken(usize),

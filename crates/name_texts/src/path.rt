@@ -9,7 +9,7 @@ use crate::checks::ID_LIMIT;
 use crate::keyed::seal_under;
 use encoding::base32;
 use octets::slice::copy_at;
-use sha1::digest;
+use sha1_hash::digest;
 
 // The characters of the hash of a directory ID. The ID is sealed with no associated data.
 fn id_hash(enc: &[u8], mac: &[u8], id: &[u8]) -> [u8; 32]

@@ -12,7 +12,7 @@ use crate::keyed::{open_under, seal_under};
 use answer::{Answer, Refusal};
 use encoding::base64url;
 use octets::slice::{copy_at, equal};
-use sha1::digest;
+use sha1_hash::digest;
 use utf8::proper_text;
 
 // How many characters the full name of a name of n bytes has.

@@ -8,7 +8,7 @@ use Rattle.ctr.specs.Ctr.{inc128, inc_of, ctr}
 use Rattle.gcm.specs.Gcm.{seal, good, plain}
 use Rattle.encoding.specs.Base32 as base32
 use Rattle.encoding.specs.Base64url as base64url
-use Rattle.sha1.specs.Message.{sha1}
+use Rattle.sha1_hash.specs.Message.{sha1}
 use Rattle.sha256.specs.Message.{sha256}
 use Rattle.hmac.specs.Hmac.{hmac_sha256}
 use Rattle.siv.specs.Cmac.{cmac}

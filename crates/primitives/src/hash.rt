@@ -13,7 +13,7 @@ pub extern "C" fn primitives_sha1(message: &[u8], out: &mut [u8]) -> u32
     if out.len() < 20 {
         return 0;
     }
-    copy_at(&sha1::digest(message), out, 0);
+    copy_at(&sha1_hash::digest(message), out, 0);
     1
 }
 

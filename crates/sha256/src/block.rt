@@ -13,7 +13,7 @@ use hashing::words::load;
 use std::num::wrapping_add_u32;
 
 // The working variables.
-#[derive(Drop)]
+#[derive(Clone, Copy)]
 pub struct Working {
     pub a: u32,
     pub b: u32,

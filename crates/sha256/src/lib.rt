@@ -19,7 +19,7 @@ use std::num::wrapping_add_u64;
 
 // The hash value of the whole blocks so far, the bytes that wait for the rest of their block, and the number of bytes, modulo 2^64.
 // Every value of this type, however it was made, can go on: `Updated` and `finished` say what it gives.
-#[derive(Drop)]
+#[derive(Clone, Copy)]
 pub struct Sha256 {
     pub words: [u32; 8],
     pub waiting: [u8; 64],

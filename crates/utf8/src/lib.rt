@@ -7,7 +7,7 @@ ghost use Rattle.utf8.specs.Character.{character};
 ghost use Rattle.utf8.specs.Continued.{continued, tails_from, goes_on, Passed};
 
 // What is awaited behind the first byte of a character: so many tails, the first of them from low to high.
-#[derive(Drop)]
+#[derive(Clone, Copy)]
 struct Awaited {
     tails: u8,
     low: u8,

@@ -9,7 +9,7 @@ use octets::slice::copy_at;
 use threshold::threshold_right;
 
 /// How headers and chunks are enciphered.
-#[derive(Drop)]
+#[derive(Clone, Copy)]
 pub enum Combo {
     SivGcm,
     SivCtrmac,
@@ -17,7 +17,7 @@ pub enum Combo {
 
 /// The encryption and the MAC master key, the cipher combo, and the shortening threshold: a full name of more characters is stored by its hash
 /// name. Any value of this type is a vault's record; where its threshold is not from 36 to 220, the three calls on names refuse it.
-#[derive(Drop)]
+#[derive(Clone, Copy)]
 pub struct Vault {
     pub enc: [u8; 32],
     pub mac: [u8; 32],
@@ -25,14 +25,14 @@ pub struct Vault {
     pub threshold: u8,
 }
 
-#[derive(Drop)]
+#[derive(Clone, Copy)]
 pub enum Made {
     Done,
     Refused(Refusal),
 }
 
 /// What the making of a record answers, and beside it the record; one of keys of zeros and the threshold 0 beside a refusal.
-#[derive(Drop)]
+#[derive(Clone, Copy)]
 pub struct MadeVault {
     pub made: Made,
     pub vault: Vault,

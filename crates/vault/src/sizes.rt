@@ -7,7 +7,7 @@ ghost use Rattle.vault.specs.Under.{sizes_in};
 use crate::record::Combo;
 
 // Of a header, of a nonce, and of what a chunk adds to its cleartext.
-#[derive(Drop)]
+#[derive(Clone, Copy)]
 pub struct ComboSizes {
     pub header: usize,
     pub nonce: usize,

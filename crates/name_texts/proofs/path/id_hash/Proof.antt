@@ -9,7 +9,7 @@ use Rattle.octets.proofs.Lists.{placed_all}
 use Rattle.aes_spec.specs.Cipher.{aes}
 use Rattle.aes.proofs.Ciphers.{length-aes}
 use Rattle.siv.proofs.Laws.{length-seal}
-use Rattle.sha1.specs.Message.{sha1}
+use Rattle.sha1_hash.specs.Message.{sha1}
 use Rattle.encoding.specs.Base32 as base32
 use Rattle.name_spec.specs.Names.{sealed_id, id_hash}
 use Rattle.name_spec.proofs.Texts.{length-id_hash}

@@ -7,8 +7,8 @@ use mathlib.Core.List.{List}
 use native.Mathlib.Omega.{arith}
 use lib.ListN.{length}
 use Rattle.octets.specs.Bytes.{placed}
-use Rattle.sha1.specs.Message.{sha1}
-use Rattle.sha1.proofs.Laws.{twenty_bytes}
+use Rattle.sha1_hash.specs.Message.{sha1}
+use Rattle.sha1_hash.proofs.Laws.{twenty_bytes}
 use Rattle.encoding.specs.Base64url as base64url
 use Rattle.encoding.proofs.Laws.{encoded-length}
 use Rattle.name_spec.specs.Names.{hash_end, hash_name}

@@ -6,7 +6,7 @@ use mathlib.Core.List.{List}
 use borrow.Author.Tests.{le-leb, lt-leb}
 use borrow.Author.Rules.{rules}
 use Rattle.octets.specs.Bytes.{placed}
-use Rattle.sha1.specs.Message.{sha1}
+use Rattle.sha1_hash.specs.Message.{sha1}
 use Rattle.primitives.specs.Results.{end, sha1_digest}
 use Rattle.primitives.proofs.Ends.{refused, done}
 use Rattle.primitives.proofs.hash.primitives_sha1.Statement.{statement}

@@ -1,0 +1,22 @@
+-- The code's running state: what it says of the bytes that went in, and what any state, however it was made, gives.
+-- Assumes nothing.
+use Rattle.std.specs.Prelude.{ℕ, List}
+use Rattle.hashing.specs.Running as hashing
+use Rattle.sha1_hash.specs.Compression.{compress}
+use Rattle.sha1_hash.specs.Message.{initial}
+use Rattle.sha1_hash.specs.declared.Sha1.{Sha1}
+
+abbrev pub state_of : Sha1 → hashing.State
+state_of t = record { words = t.words; waiting = t.waiting; length = t.length }
+
+-- A state after the message m.
+abbrev pub Running : Sha1 → List ℕ → Type 0
+Running t m = hashing.Running compress initial (state_of t) m
+
+-- The state r after any state t and the bytes s.
+abbrev pub Updated : Sha1 → List ℕ → Sha1 → Type 0
+Updated t s r = hashing.Updated compress (state_of t) s (state_of r)
+
+-- What any state gives at the end.
+abbrev pub finished : Sha1 → List ℕ
+finished t = hashing.finished compress (state_of t)
