@@ -1,4 +1,6 @@
 // AES-256 (FIPS 197): the key schedule and the cipher of a block.
+#![tactic(auto)]
+
 pub mod block;
 pub mod key;
 pub mod rotate;

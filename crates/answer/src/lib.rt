@@ -1,4 +1,6 @@
 // What the calls on a vault answer.
+#![tactic(auto)]
+
 ghost use Rattle.std.specs.Prelude.{◌≡◌};
 ghost use Rattle.octets.specs.Rows.{number};
 ghost use Rattle.answer.specs.Meaning.{row};

@@ -1,4 +1,6 @@
 // The line that tells how the check of a vault file ends.
+#![tactic(auto)]
+
 mod decimal;
 mod line;
 

@@ -1,4 +1,6 @@
 // Counter mode with AES-256 and a counter of 32 or of 128 bits, applied from any byte of the text on.
+#![tactic(auto)]
+
 mod counter;
 pub mod in_place;
 

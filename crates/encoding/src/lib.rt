@@ -1,4 +1,6 @@
 // RFC 4648: base64url and base32.
+#![tactic(auto)]
+
 pub mod alphabet;
 pub mod base32;
 pub mod base64url;

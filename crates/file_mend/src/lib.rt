@@ -1,4 +1,6 @@
 // A range of a file's cleartext replaced in place, under the vault's record.
+#![tactic(auto)]
+
 mod chunk;
 mod chunks;
 mod inside;

@@ -1,4 +1,6 @@
 // A reader that is kept for a file: it holds the file's bytes and the keys that its chunks are read under, so that a read does not open the header again.
+#![tactic(auto)]
+
 pub mod keys;
 pub mod opening;
 pub mod range;

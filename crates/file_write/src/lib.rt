@@ -1,4 +1,6 @@
 // The file writer, under the vault's record.
+#![tactic(auto)]
+
 mod chunks;
 
 ghost use Rattle.std.specs.Prelude.{◌≡◌, ◌&&◌, ◌*◌, ◌≤◌, length, eqb};

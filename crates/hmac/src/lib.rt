@@ -1,4 +1,6 @@
 // HMAC-SHA-256 (FIPS 198-1) of a text that stands in three parts.
+#![tactic(auto)]
+
 ghost use Rattle.std.specs.Prelude.{◌≡◌, ◌++◌, replicate};
 ghost use Rattle.octets.specs.Xors.{xors};
 ghost use Rattle.sha256.specs.Message.{sha256};

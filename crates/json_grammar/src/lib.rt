@@ -1,1 +1,2 @@
 // JSON, RFC 8259: definitions alone.
+#![tactic(auto)]

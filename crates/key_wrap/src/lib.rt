@@ -1,4 +1,6 @@
 // The wrapping and unwrapping of a master key by RFC 3394, with AES-256 under the key-encryption key kek.
+#![tactic(auto)]
+
 mod registers;
 mod steps;
 mod store;

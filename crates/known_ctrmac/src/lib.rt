@@ -1,1 +1,2 @@
 // Known answers for SIV_CTRMAC: what the definitions give for known inputs stands in specs/, and the checker works it out.
+#![tactic(auto)]

@@ -1,1 +1,2 @@
 // The vault's label: definitions alone.
+#![tactic(auto)]

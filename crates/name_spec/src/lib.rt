@@ -1,1 +1,2 @@
 // Names and directory paths as they are stored, and what each call on them ends in.
+#![tactic(auto)]

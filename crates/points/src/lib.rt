@@ -1,1 +1,2 @@
 // The test points of the definitions stand in specs/.
+#![tactic(auto)]

@@ -1,4 +1,6 @@
 // SHA-1 (FIPS 180-4) of a message that comes in parts of any length.
+#![tactic(auto)]
+
 mod block;
 mod operations;
 

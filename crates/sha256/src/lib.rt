@@ -1,4 +1,6 @@
 // SHA-256 (FIPS 180-4) of a message that comes in parts of any length.
+#![tactic(auto)]
+
 mod block;
 mod constants;
 mod operations;

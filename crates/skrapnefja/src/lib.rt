@@ -4,6 +4,8 @@
 // The C header calls `written` `length`. Every call but those on wrapped keys, the opening of a label, the making of a vault and a read through a reader is lent the vault as 66
 // bytes, which are looked at first: row 1 where they are not 66, then, at the writing and the opening of names, row 18 where their threshold is not from 36 to
 // 220, then row 17 where their combo is unknown.
+#![tactic(auto)]
+
 pub mod chunk;
 mod ending;
 pub mod file;

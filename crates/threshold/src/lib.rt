@@ -1,4 +1,6 @@
 // The limits of a vault's shortening threshold.
+#![tactic(auto)]
+
 ghost use Rattle.std.specs.Prelude.{◌≡◌};
 ghost use Rattle.threshold.specs.Threshold.{threshold_right};
 

@@ -1,4 +1,6 @@
 // RFC 3629, character after character: is a text well-formed UTF-8, and proper text, as a name must be?
+#![tactic(auto)]
+
 ghost use Rattle.std.specs.Prelude.{◌≡◌, true, false, List, ◌∷◌, ℕ, ◌≤◌, ◌<◌, ◌+◌, length, drop};
 ghost use Rattle.std.proofs.Math.Option.{none, some};
 ghost use Rattle.utf8.specs.Utf8.{well_formed};

@@ -1,5 +1,7 @@
 // The vault's record as bytes, the form in which C callers lend it: 66 bytes, the encryption master key, the MAC master key, the combo's number and the
 // threshold.
+#![tactic(auto)]
+
 ghost use Rattle.std.specs.Prelude.{◌≡◌, length};
 ghost use Rattle.octets.specs.Rows.{ended};
 ghost use Rattle.answer.specs.Meaning.{meaning};

@@ -1,4 +1,6 @@
 // Checks a vault file: reads the two master keys and the file from standard input, and writes the line that tells the outcome.
+#![tactic(auto)]
+
 use check_line::check_line;
 use libc::{STDIN_FILENO, STDOUT_FILENO};
 

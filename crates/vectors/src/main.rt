@@ -1,5 +1,7 @@
 // Published vectors of the building blocks, values of the stock program's tests, and values under keys, nonces and a number that all
 // differ (`second/vectors/distinct.txt`), a line each: what it prints is compared with those values.
+#![tactic(auto)]
+
 mod ctrmac;
 mod labels;
 

@@ -1,0 +1,18 @@
+-- `last_round`: four columns, each with its word of the key.
+-- Assumes nothing.
+use mathlib.Core.Path.{◌∙◌}
+use borrow.Author.Rules.{rules}
+use Rattle.octets.specs.Words.{word_bytes}
+use Rattle.octets.specs.Xors.{xors}
+use Rattle.octets.proofs.Words.{bytes_are}
+use Rattle.aes_spec.specs.Cipher.{shift_rows, sub_bytes}
+use Rattle.aes.specs.Blocks.{state}
+use Rattle.aes.proofs.Ciphers.{add_round_key_lem}
+use Rattle.aes.proofs.block.last_round.Goals as goal
+
+pub returns : goal.returns
+unfolding word_bytes xors shift_rows sub_bytes
+returns c =
+    let x = c.args in
+    bytes_are c.last_column.ensures c.last_column-2.ensures c.last_column-3.ensures c.last_column-4.ensures
+    ∙ add_round_key_lem x.w.now x.n (shift_rows (sub_bytes (state x.x))) c.round_key-k.ensures

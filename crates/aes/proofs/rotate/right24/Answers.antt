@@ -1,0 +1,12 @@
+-- `right24`: the bytes of the rotated word.
+-- Assumes nothing.
+use borrow.Author.Rules.{rules}
+use native.Mathlib.Omega.{arith}
+use Rattle.octets.specs.Words.{b0, b1, b2, b3}
+use Rattle.octets.proofs.Words.{bytes_of_word, parts}
+use Rattle.aes.proofs.rotate.right24.Goals as goal
+
+pub returns : goal.returns
+returns c =
+    let w = c.args.w in
+    bytes_of_word (b1 w) (b2 w) (b3 w) (b0 w) (omega arith) (omega arith) (omega arith) (omega arith) (omega (arith, parts w))

@@ -1,0 +1,33 @@
+-- `crypt_by`: after each turn the first j bytes are those of the text that it becomes.
+-- Assumes nothing.
+use Rattle.std.proofs.Common.{◌≡◌, ◌-◌, ◌≤◌, length, refl, ap, ◌∙◌, arith, rules}
+use Rattle.octets.specs.Bytes.{filled}
+use Rattle.octets.proofs.Lists.{filled_all}
+use Rattle.aes_spec.specs.Cipher.{cipher}
+use Rattle.aes.specs.Blocks.{state}
+use Rattle.aes.proofs.Ciphers.{length-cipher}
+use Rattle.ctr.specs.Ctr as spec
+use Rattle.ctr.proofs.Texts.{length-ctr, text_more_in_place}
+use Rattle.ctr.proofs.in_place.crypt_by.Goals as goal
+
+pub loop-j-init : goal.loop-j-init
+loop-j-init c = (search rules, refl, refl)
+
+pub loop-j-preserved : goal.loop-j-preserved
+loop-j-preserved c =
+    let n = c.in_block in
+    let l = c.loop-j in
+    let x = c.args in
+    let e = cipher 14 x.w.now in
+    let f = text_more_in_place (spec.inc_of x.wide) e (length-cipher 14 x.w.now) (state x.first) x.text.now l.text l.j n.result
+    (omega (arith, n.ensures)) n.ensures.2 l.invariant.2 (ap e c.counter_at-c.ensures) c.apply.ensures in
+    (omega arith, f.0, f.1)
+
+pub returns : goal.returns
+returns c =
+    let l = c.loop-j in
+    let x = c.args in
+    let s = x.text.now in
+    let t = spec.ctr (spec.inc_of x.wide) (cipher 14 x.w.now) (state x.first) s in
+    let n = length-ctr (spec.inc_of x.wide) (cipher 14 x.w.now) (length-cipher 14 x.w.now) (state x.first) s in
+    l.invariant.2 ∙ filled_all t s l.j (omega arith) (omega arith)

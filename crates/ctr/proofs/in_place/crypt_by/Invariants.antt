@@ -1,0 +1,17 @@
+-- `crypt_by`: after each turn the first j bytes are those of the text that it becomes.
+-- Assumes nothing.
+use Rattle.std.proofs.Common.{◌≡◌, ◌-◌, ◌≤◌, length, refl, ap, ◌∙◌, arith, rules}
+use Rattle.octets.specs.Bytes.{filled}
+use Rattle.octets.proofs.Lists.{filled_all}
+use Rattle.aes_spec.specs.Cipher.{cipher}
+use Rattle.aes.specs.Blocks.{state}
+use Rattle.aes.proofs.Ciphers.{length-cipher}
+use Rattle.ctr.specs.Ctr as spec
+use Rattle.ctr.proofs.Texts.{length-ctr, text_more_in_place}
+use Rattle.ctr.proofs.in_place.crypt_by.Given as goal
+
+abbrev pub invariant-loop-j : goal.invariant-loop-j
+invariant-loop-j l = (l.j ≤ length l.initial.text) × (length l.text ≡ length l.initial.text) × (l.text ≡ filled (spec.ctr (spec.inc_of l.wide) (cipher 14 l.w) (state l.first) l.initial.text) l.j l.initial.text)
+
+abbrev pub decreases-loop-j : goal.decreases-loop-j
+decreases-loop-j l = length l.initial.text - l.j

@@ -1,0 +1,26 @@
+-- `whole`: word by word, each to its place. A word that is read later still stands as it was.
+-- Assumes nothing.
+use Rattle.std.proofs.Common.{ap, ◌∙◌, arith, rules}
+use Rattle.octets.specs.Words.{word_bytes}
+use Rattle.octets.specs.Xors.{xors}
+use Rattle.ctr.proofs.WholeBlocks.{xor_block_in_place}
+use Rattle.ctr.proofs.in_place.whole.Goals as goal
+
+pub put_word-requires-3 : goal.put_word-requires-3
+put_word-requires-3 c = omega (arith, c.requires.in_bounds, c.text-1.given, c.text-2-1.given)
+
+pub word_at-requires-3 : goal.word_at-requires-3
+word_at-requires-3 c = omega (arith, c.requires.in_bounds, c.text-1.given, c.text-2-1.given, c.text-3-1.given)
+
+pub put_word-requires-4 : goal.put_word-requires-4
+put_word-requires-4 c = omega (arith, c.requires.in_bounds, c.text-1.given, c.text-2-1.given, c.text-3-1.given)
+
+pub returns : goal.returns
+unfolding word_bytes
+returns c =
+    let s = c.args.text.now in
+    let k = c.encrypt-k.result in
+    xor_block_in_place s c.requires.in_bounds.1 k.a k.b k.c k.d _ _ _ _ c.put_word.auto.1.0 c.put_word-2.auto.1.0
+    c.word_at-a.ensures.has_bytes c.word_at.ensures.has_bytes c.word_at-2.ensures.has_bytes c.word_at-3.ensures.has_bytes
+    c.put_word.ensures c.put_word-2.ensures c.put_word-3.ensures c.put_word-4.ensures
+    ∙ ap (xors s) c.encrypt-k.ensures

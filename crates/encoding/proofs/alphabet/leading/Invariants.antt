@@ -1,0 +1,15 @@
+-- `leading`: the characters passed are of the alphabet.
+-- Assumes nothing.
+use Prim.Native.Nat.{ℕ, ◌-◌, ◌≤◌, ◌<◌}
+use borrow.Author.Rules.{rules}
+use native.Mathlib.Omega.{arith}
+use borrow.Author.Count.{below_more}
+use lib.ListN.{length, get_or}
+use Rattle.encoding.specs.Base64url.{value}
+use Rattle.encoding.proofs.alphabet.leading.Given as goal
+
+abbrev pub invariant-loop-i : goal.invariant-loop-i
+invariant-loop-i l = (l.i ≤ length l.text) × ((k : ℕ) → k < l.i → value (get_or l.text k 0) < 64)
+
+abbrev pub decreases-loop-i : goal.decreases-loop-i
+decreases-loop-i l = length l.text - l.i

@@ -1,0 +1,10 @@
+-- The constant holds the value of each byte.
+-- Assumes nothing.
+use mathlib.Core.Path.{refl}
+use Rattle.encoding.specs.Base64url.{alphabet, place, value}
+use Rattle.encoding.specs.ValueTable.{values_from, value_table}
+use Rattle.encoding.proofs.alphabet.values.Goals as goal
+
+pub returns : goal.returns
+unfolding alphabet place value values_from value_table
+returns c = refl

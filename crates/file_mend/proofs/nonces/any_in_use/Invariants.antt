@@ -1,0 +1,20 @@
+-- `any_in_use`: whether one of all nonces is in use is whether one of those from i on is.
+-- Assumes nothing.
+use Prim.Native.Nat.{ℕ, ◌+◌, ◌-◌, ◌*◌, ◌≤◌, ◌<◌}
+use mathlib.Core.Path.{◌≡◌, sym, ap, ap₂, ◌∙◌}
+use mathlib.Core.List.{List}
+use native.Mathlib.Omega.{arith}
+use lib.ListN.{length, take, drop}
+use borrow.Author.Rules.{rules}
+use Rattle.frame.specs.Layout.{Sizes, chunks}
+use Rattle.frame.proofs.Steps.{all, front, ends_within}
+use Rattle.vault.specs.Vault.{sizes_of}
+use Rattle.mend_spec.specs.Mend.{in_use, any_in_use}
+use Rattle.mend_spec.proofs.Steps.{any_next, any_none}
+use Rattle.file_mend.proofs.nonces.any_in_use.Given as goal
+
+abbrev pub invariant-loop-i : goal.invariant-loop-i
+invariant-loop-i l = (l.i ≤ l.k) × (any_in_use (sizes_of l.combo) l.k l.nonces l.file (chunks l.n) ≡ any_in_use (sizes_of l.combo) (l.k - l.i) (drop ((sizes_of l.combo).nonce * l.i) l.nonces) l.file (chunks l.n))
+
+abbrev pub decreases-loop-i : goal.decreases-loop-i
+decreases-loop-i l = l.k - l.i

@@ -1,0 +1,17 @@
+-- `among`: whether x is among all is whether it is among those from i on.
+-- Assumes nothing.
+use Prim.Native.Nat.{◌-◌, ◌*◌, ◌≤◌}
+use mathlib.Core.Path.{◌≡◌, sym, ap, ◌∙◌}
+use native.Mathlib.Omega.{arith}
+use lib.ListN.{length, take, drop}
+use borrow.Author.Rules.{rules}
+use Rattle.octets.specs.Bytes.{same}
+use Rattle.frame.specs.Layout.{among}
+use Rattle.frame.proofs.Steps.{ends_within, among_all, among_next, among_none}
+use Rattle.file_parts.proofs.nonces.among.Given as goal
+
+abbrev pub invariant-loop-i : goal.invariant-loop-i
+invariant-loop-i l = (l.i ≤ l.k) × (among l.w l.k l.x l.nonces ≡ among l.w (l.k - l.i) l.x (drop (l.w * l.i) l.nonces))
+
+abbrev pub decreases-loop-i : goal.decreases-loop-i
+decreases-loop-i l = l.k - l.i

@@ -1,0 +1,78 @@
+-- `repeats`: whether two of all are equal is whether two of those from i on are.
+-- Assumes nothing.
+use Prim.Native.Nat.{◌+◌, ◌-◌, ◌*◌, ◌≤◌}
+use mathlib.Core.Path.{◌≡◌, refl, sym, ap, ◌∙◌}
+use native.Mathlib.Omega.{arith}
+use lib.ListN.{length, take, drop, length-drop}
+use Rattle.octets.proofs.Lists.{part-rest}
+use borrow.Author.Rules.{rules}
+use Rattle.frame.specs.Layout.{among, repeats}
+use Rattle.frame.proofs.Steps.{ends_within, rest-within, repeats_all, repeats-next, repeats_none}
+use Rattle.file_parts.proofs.nonces.repeats.Goals as goal
+
+pub loop-i-init : goal.loop-i-init
+loop-i-init c = let x = c.args in (omega arith, repeats_all x.w x.k x.nonces.now)
+
+pub nonce-requires : goal.nonce-requires
+nonce-requires c =
+    let ends : →
+    let x = c.args in
+    x.w * c.loop-i.i + x.w ≤ length x.nonces.now = ends_within c.args.w c.args.k c.loop-i.i (length c.args.nonces.now) (omega arith) c.requires in
+    omega (arith, ends)
+
+pub overflow_mul-w : goal.overflow_mul-w
+overflow_mul-w c =
+    let ends : →
+    let x = c.args in
+    x.w * c.loop-i.i + x.w ≤ length x.nonces.now = ends_within c.args.w c.args.k c.loop-i.i (length c.args.nonces.now) (omega arith) c.requires in
+    omega (arith, ends)
+
+pub slice_bounds-among-count : goal.slice_bounds-among-count
+slice_bounds-among-count c =
+    let ends : →
+    let x = c.args in
+    x.w * c.loop-i.i + x.w ≤ length x.nonces.now = ends_within c.args.w c.args.k c.loop-i.i (length c.args.nonces.now) (omega arith) c.requires in
+    omega (arith, ends)
+
+pub slice_bounds-among-start : goal.slice_bounds-among-start
+slice_bounds-among-start c =
+    let ends : →
+    let x = c.args in
+    x.w * c.loop-i.i + x.w ≤ length x.nonces.now = ends_within c.args.w c.args.k c.loop-i.i (length c.args.nonces.now) (omega arith) c.requires in
+    omega (arith, ends)
+
+pub among-requires : goal.among-requires
+among-requires c =
+    let ns = c.args.nonces.now in
+    let a = c.args.w * (c.loop-i.i + 1) in
+    let n = ap length (part-rest ns (length ns) a refl) ∙ length-drop a ns in
+    omega (arith, n, rest-within c.args.w c.args.k c.loop-i.i (length ns) (omega arith) c.requires)
+
+pub returns-then-among : goal.returns-then-among
+returns-then-among c =
+    let found : →
+    let x = c.args in
+    let i = c.loop-i.i in
+    among x.w (x.k - (i + 1)) (take x.w (drop (x.w * i) x.nonces.now)) (drop (x.w * (i + 1)) x.nonces.now) ≡ c.among.result = let x = c.args in
+    let r = part-rest x.nonces.now (length x.nonces.now) (x.w * (c.loop-i.i + 1)) refl in
+    sym (c.among.ensures ∙ rw (r, c.nonce.ensures.0)) in
+    let x = c.args in
+    let s = found ∙ c.if-among.true in
+    sym (c.loop-i.invariant.1 ∙ repeats-next x.w x.k c.loop-i.i x.nonces.now (omega arith) ∙ rw s)
+
+pub loop-i-preserved : goal.loop-i-preserved
+loop-i-preserved c =
+    let found : →
+    let x = c.args in
+    let i = c.loop-i.i in
+    among x.w (x.k - (i + 1)) (take x.w (drop (x.w * i) x.nonces.now)) (drop (x.w * (i + 1)) x.nonces.now) ≡ c.among.result = let x = c.args in
+    let r = part-rest x.nonces.now (length x.nonces.now) (x.w * (c.loop-i.i + 1)) refl in
+    sym (c.among.ensures ∙ rw (r, c.nonce.ensures.0)) in
+    let x = c.args in
+    let s = found ∙ c.if-among.false in
+    (omega arith, c.loop-i.invariant.1 ∙ repeats-next x.w x.k c.loop-i.i x.nonces.now (omega arith) ∙ rw s)
+
+pub returns : goal.returns
+returns c =
+    let x = c.args in
+    sym (c.loop-i.invariant.1 ∙ repeats_none x.w x.k c.loop-i.i x.nonces.now (omega arith))

@@ -1,0 +1,14 @@
+-- `step`: one block is added, and the sum multiplied.
+-- Assumes nothing.
+use Prim.Native.Nat.{ℕ}
+use mathlib.Core.Path.{◌∙◌, ap}
+use borrow.Author.Rules.{rules}
+use lib.Bits.{bit_xor}
+use Rattle.gcm.specs.Elements.{value}
+use Rattle.gcm.specs.Field as spec
+use Rattle.gcm.proofs.ghash.step.Goals as goal
+
+pub returns : goal.returns
+returns c =
+    let x = c.args in
+    c.times.ensures h e ∙ ap (λ (z : ℕ). spec.mul z h) (c.add.ensures ∙ ap (bit_xor (value x.y)) c.of_block.ensures)

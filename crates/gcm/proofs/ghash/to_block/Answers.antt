@@ -1,0 +1,11 @@
+-- `to_block`: a number as four words.
+-- Assumes nothing.
+use borrow.Author.Rules.{rules}
+use native.Mathlib.Omega.{arith}
+use Rattle.octets.proofs.BigEndian.{be_halves}
+use Rattle.gcm.proofs.ghash.to_block.Goals as goal
+
+pub returns : goal.returns
+returns c =
+    let x = c.args.x in
+    be_halves x.hi x.lo (omega arith) (omega arith)

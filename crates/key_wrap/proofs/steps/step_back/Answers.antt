@@ -1,0 +1,12 @@
+-- `step_back`: one block deciphered.
+-- Assumes nothing.
+use borrow.Author.Rules.{rules}
+use Rattle.aes_inverse.specs.InverseCipher.{inv_cipher}
+use Rattle.key_wrap.proofs.Parts.{stepped_back}
+use Rattle.key_wrap.proofs.steps.step_back.Goals as goal
+
+pub returns : goal.returns
+returns c =
+    let a = c.args in
+    let y = c.decrypt-y in
+    stepped_back (inv_cipher 14 a.w.now) a.n a.x.a a.x.b a.x.c a.x.d a.x.e a.x.f a.x.g a.x.h a.x.i a.x.j y.result.a y.result.b y.result.c y.result.d (search rules) y.ensures

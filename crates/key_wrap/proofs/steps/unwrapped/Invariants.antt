@@ -1,0 +1,18 @@
+-- `unwrapped`: the steps that are left, from here, are all steps from the start.
+-- Assumes nothing.
+use borrow.Author.Rules.{rules}
+use Prim.Native.Nat.{ℕ, suc, ◌-◌, ◌<◌, ◌≤◌}
+use mathlib.Core.List.{List}
+use mathlib.Core.Path.{◌≡◌, refl, sym, ◌∙◌, ap, ap₂}
+use native.Mathlib.Omega.{arith}
+use lib.ListN.{length, drop, length-drop}
+use Rattle.aes_inverse.specs.InverseCipher.{inv_cipher}
+use Rattle.key_wrap.specs.KeyWrap.{steps, unwrap_step, unwrap_steps, unwrapped}
+use Rattle.key_wrap.specs.RegisterBytes.{bytes}
+use Rattle.key_wrap.proofs.steps.unwrapped.Given as goal
+
+abbrev pub invariant-loop-n : goal.invariant-loop-n
+invariant-loop-n l = (l.n ≤ 24) × (unwrap_steps (inv_cipher 14 l.w) l.n (bytes l.x) ≡ unwrap_steps (inv_cipher 14 l.w) 24 (bytes l.initial.x))
+
+abbrev pub decreases-loop-n : goal.decreases-loop-n
+decreases-loop-n l = l.n

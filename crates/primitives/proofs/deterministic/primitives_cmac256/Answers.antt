@@ -1,0 +1,32 @@
+-- `primitives_cmac256`: the tests in order, and the tag under the expanded key.
+-- Assumes nothing.
+use Prim.Native.Nat.{ℕ, ◌≤◌}
+use mathlib.Core.Path.{◌≡◌, ◌∙◌, ap}
+use mathlib.Core.List.{List}
+use borrow.Author.Tests.{eq-eqb, ne_eqb, le-leb, lt-leb}
+use borrow.Author.Rules.{rules}
+use lib.ListN.{length}
+use Rattle.octets.specs.Bytes.{placed}
+use Rattle.aes_spec.specs.Cipher.{cipher, aes}
+use Rattle.aes.proofs.Ciphers.{under_key}
+use Rattle.siv.specs.Cmac.{cmac}
+use Rattle.primitives.specs.Results.{end, cmac256}
+use Rattle.primitives.proofs.Ends.{refused, done}
+use Rattle.primitives.proofs.deterministic.primitives_cmac256.Goals as goal
+
+pub returns-then-key-ne32 : goal.returns-then-key-ne32
+unfolding cmac256
+returns-then-key-ne32 c = refused _ _ _ (rw (ne_eqb _ _ c.if-key-ne32.true))
+
+pub returns-then-out-lt16 : goal.returns-then-out-lt16
+unfolding cmac256
+returns-then-out-lt16 c = refused _ _ _ (rw (eq-eqb _ _ c.if-key-ne32.false, lt-leb _ _ c.if-out-lt16.true))
+
+pub returns : goal.returns
+unfolding cmac256
+returns c =
+    let x = c.args in
+    let e : c.to_bytes.result ≡ cmac (aes 8 x.key.now) x.message.now =
+    c.to_bytes.ensures ∙ c.cmac.ensures ∙ ap (λ (f : List ℕ → List ℕ). cmac f x.message.now) (under_key _ _ c.expand.ensures) in
+    ap (end 1) (c.copy_at.ensures ∙ ap (λ (l : List ℕ). placed l 0 x.out.now) e)
+    ∙ done _ _ _ (rw (eq-eqb _ _ c.if-key-ne32.false, le-leb _ _ c.if-out-lt16.false))

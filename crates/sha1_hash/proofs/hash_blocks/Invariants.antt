@@ -1,0 +1,12 @@
+-- `hash_blocks`: i blocks are hashed.
+-- Assumes nothing.
+use Rattle.std.proofs.Common.{◌≡◌, ◌-◌, ◌≤◌, refl, ◌∙◌, add-one, arith, rules}
+use Rattle.hashing.specs.Message.{hash_from}
+use Rattle.sha1_hash.specs.Compression.{compress}
+use Rattle.sha1_hash.proofs.hash_blocks.Given as goal
+
+abbrev pub invariant-loop-i : goal.invariant-loop-i
+invariant-loop-i l = (l.i ≤ l.n) × (l.x ≡ hash_from compress l.initial.x l.s l.i)
+
+abbrev pub decreases-loop-i : goal.decreases-loop-i
+decreases-loop-i l = l.n - l.i

@@ -1,0 +1,19 @@
+-- `seal_chunk_in_place`: the MAC covers the header's nonce and the number.
+-- Assumes nothing.
+use Prim.Native.Nat.{ℕ, ◌-◌}
+use mathlib.Core.Path.{◌∙◌, ap}
+use mathlib.Core.List.{List, ◌++◌}
+use lib.ListN.{length, take, drop}
+use Rattle.aes_spec.specs.Cipher.{cipher}
+use Rattle.hmac.specs.Hmac.{hmac_sha256}
+use Rattle.siv_ctrmac.specs.SivCtrmac.{sealed, chunk_data}
+use borrow.Author.Rules.{rules}
+use Rattle.siv_ctrmac.proofs.chunk.seal_chunk_in_place.Goals as goal
+
+pub returns : goal.returns
+unfolding chunk_data
+returns c =
+    let x = c.args in
+    let s = x.chunk.now in
+    c.seal_in_place.ensures
+    ∙ ap (λ (b : List ℕ). sealed (cipher 14 x.w.now) (hmac_sha256 x.mac.now) (x.«header-nonce».now ++ b) x.nonce.now (take (length s - 48) (drop 16 s))) c.split_eight.ensures

@@ -1,0 +1,32 @@
+-- `open_header`: the MAC is tested, and then the payload is written.
+-- Assumes nothing.
+use Prim.Native.Nat.{ℕ, ◌-◌}
+use mathlib.Core.Path.{◌≡◌, refl, sym, ◌∙◌, ap}
+use mathlib.Core.List.{List, []}
+use borrow.Author.Tests.{not-true, not-false}
+use native.Mathlib.Omega.{arith}
+use lib.ListN.{length, take, take-append-drop}
+use lib.Seq.{take_all}
+use Rattle.aes_spec.specs.Cipher.{aes}
+use Rattle.aes.proofs.Ciphers.{under_key, length-aes}
+use Rattle.siv_ctrmac.specs.SivCtrmac.{opened, head_of, header_good}
+use Rattle.siv_ctrmac.proofs.Sealed.{length-opened}
+use borrow.Author.Rules.{rules}
+use Rattle.siv_ctrmac.proofs.header.open_header.Goals as goal
+
+pub returns-then-not-good : goal.returns-then-not-good
+unfolding header_good
+returns-then-not-good c = record { value = sym (sym c.good.ensures ∙ not-true c.good.result c.if-not-good.true-raw); payload_after = refl }
+
+pub open_part-requires : goal.open_part-requires
+open_part-requires c = record { t_value = (c.requires.t_value, search rules, (c.args.mac.now, [], sym c.good.ensures ∙ not-false c.good.result c.if-not-good.false-raw)); out_in_bounds = omega (arith, c.requires.enc_len) }
+
+pub returns : goal.returns
+unfolding header_good head_of
+returns c =
+    let x = c.args in
+    let b = x.header.now in
+    let n = length-opened (aes 8 x.enc.now) (length-aes 8 x.enc.now) b in
+    let o = opened (aes 8 x.enc.now) b in
+    let e : c.open_part.new.out ≡ take (length x.payload.now) o =
+    c.open_part.ensures ∙ ap (λ (e : List ℕ → List ℕ). take (length x.payload.now) (opened e b)) (under_key _ _ c.expand.ensures) in record { value = sym (sym c.good.ensures ∙ not-false c.good.result c.if-not-good.false-raw); payload_after = e ∙ take_all (length x.payload.now) o (omega (arith, n, c.requires.enc_len)) ∙ sym (take-append-drop 8 o) }

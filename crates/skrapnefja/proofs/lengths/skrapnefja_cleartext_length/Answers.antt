@@ -1,0 +1,20 @@
+-- `skrapnefja_cleartext_length`: the row of the lent bytes, or the call and its answer as C takes it.
+-- Assumes nothing.
+use mathlib.Core.Path.{sym, ap, ◌∙◌}
+use mathlib.Core.List.{[]}
+use Rattle.octets.specs.Rows.{Outcome, ended}
+use borrow.Author.Rules.{rules}
+use Rattle.vault_bytes.proofs.Lending.{lent-size, lent_under}
+use Rattle.skrapnefja.proofs.Joined.{joined, lent_row_lem}
+use Rattle.skrapnefja.proofs.lengths.skrapnefja_cleartext_length.Goals as goal
+
+pub returns-then-row-ne0 : goal.returns-then-row-ne0
+returns-then-row-ne0 c = let x = c.args in lent_row_lem x.vault.now _ _ x.written.now c.lent_row-row.ensures c.if-row-ne0.true
+
+pub vault_in-requires : goal.vault_in-requires
+vault_in-requires c = lent-size _ (sym c.lent_row-row.ensures ∙ c.if-row-ne0.false)
+
+pub returns : goal.returns
+returns c =
+    let x = c.args in
+    joined x.written.now (ap (λ (o : Outcome). ended o []) c.cleartext_length.ensures ∙ lent_under _ _ _ c.lent_row-row.ensures c.if-row-ne0.false c.vault_in.ensures) c.end.ensures

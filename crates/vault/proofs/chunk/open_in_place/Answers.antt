@@ -1,0 +1,34 @@
+-- `open_in_place`: each arm is its combo's.
+-- Assumes nothing.
+use mathlib.Core.Path.{sym, ◌∙◌, ap}
+use native.Mathlib.Omega.{arith}
+use Rattle.octets.specs.Bytes.{placed}
+use Rattle.aes_spec.specs.Cipher.{cipher}
+use Rattle.vault.specs.Vault.{sizes_of}
+use Rattle.vault.specs.Under.{opened_under}
+use Rattle.vault.specs.declared.record.Combo.{Combo}
+use Rattle.vault.proofs.Combos.{tagged_gcm, tagged_ctrmac}
+use borrow.Author.Rules.{rules}
+use Rattle.vault.proofs.chunk.open_in_place.Goals as goal
+
+pub open_in_place-requires : goal.open_in_place-requires
+open_in_place-requires c = let k = c.in-SivGcm.is in record { t_value = (c.requires.t_value.0, c.requires.t_value.1, tagged_gcm (cipher 14 c.args.w.now) c.args.chunk.now k c.requires.t_value.2); in_bounds = omega (arith, ap (λ (y : Combo). (sizes_of y).overhead) k, c.requires.combo_in_bounds) }
+
+pub open_in_place-requires-in-SivCtrmac : goal.open_in_place-requires-in-SivCtrmac
+open_in_place-requires-in-SivCtrmac c =
+    let k = c.in-SivCtrmac.is in
+    ((c.requires.t_value.0, c.requires.t_value.1, tagged_ctrmac (cipher 14 c.args.w.now) c.args.chunk.now k c.requires.t_value.2), omega (arith, ap (λ (y : Combo). (sizes_of y).overhead) k, c.requires.combo_in_bounds))
+
+pub returns-in-SivGcm : goal.returns-in-SivGcm
+returns-in-SivGcm c =
+    let x = c.args in
+    let s = x.chunk.now in
+    c.open_in_place.ensures
+    ∙ ap (λ (k : Combo). placed (opened_under k (cipher 14 x.w.now) s) (sizes_of k).nonce s) (sym c.in-SivGcm.is)
+
+pub returns-in-SivCtrmac : goal.returns-in-SivCtrmac
+returns-in-SivCtrmac c =
+    let x = c.args in
+    let s = x.chunk.now in
+    c.open_in_place-in-SivCtrmac.ensures
+    ∙ ap (λ (k : Combo). placed (opened_under k (cipher 14 x.w.now) s) (sizes_of k).nonce s) (sym c.in-SivCtrmac.is)

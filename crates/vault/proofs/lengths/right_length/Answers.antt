@@ -1,0 +1,14 @@
+-- `right_length`: the sizes of the combo.
+-- Assumes nothing.
+use Prim.Native.Nat.{◌≤◌}
+use mathlib.Core.Path.{◌∙◌, sym, ap, subst}
+use Rattle.frame.specs.Layout.{Sizes, right_length}
+use Rattle.vault.proofs.Combos.{small_overhead}
+use borrow.Author.Rules.{rules}
+use Rattle.vault.proofs.lengths.right_length.Goals as goal
+
+pub right_by-requires : goal.right_by-requires
+right_by-requires c = subst (λ (z : Sizes). z.overhead ≤ 48) (sym c.sizes_of.ensures) (small_overhead c.args.combo)
+
+pub returns : goal.returns
+returns c = c.right_by.ensures ∙ ap (λ (z : Sizes). right_length z c.args.l) c.sizes_of.ensures

@@ -1,0 +1,13 @@
+-- `master_keys_right`: the tests in the definition's order.
+-- Assumes nothing.
+use borrow.Author.Tests.{eq-eqb, ne_eqb}
+use Rattle.frame.specs.Frame.{master_keys_right}
+use Rattle.vault.proofs.record.master_keys_right.Goals as goal
+
+pub returns-then-enc-ne32 : goal.returns-then-enc-ne32
+unfolding master_keys_right
+returns-then-enc-ne32 c = rw (ne_eqb _ _ c.if-enc-ne32.true)
+
+pub returns : goal.returns
+unfolding master_keys_right
+returns c = rw (eq-eqb _ _ c.if-enc-ne32.false)
