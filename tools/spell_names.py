@@ -18,6 +18,8 @@ COMMENT = re.compile(r"(?m)(?<![^\s(){};,])--[^\n]*")
 DECLARED = re.compile(r"^(\s*)((?:(?:pub|abbrev|unfoldable|pattern) +)*)(" + NAME + r") *(?:\{[^{}]*\} *)*:(?= |$)")
 TYPED = re.compile(r"^\s*(?:pub +)?(?:record|data) +(?:pub +)?(" + NAME + ")")
 CLAUSE = re.compile(r"\b(?:requires|ensures)\*?(?: +\w+)? *\{|\bghost +\w+ *(?::|=)? *\{")
+# What a file imports of the libraries keeps its name there.
+OF_LIBRARY = re.compile(r"\buse (?:Prim|mathlib|native|lib|borrow|denote|Rattle\.(?:std|core|std_\w+))\.\S*?\.?\{([^}]*)\}")
 GHOST_USE = re.compile(r"\bghost use\b[^;]*;")
 # The library's functions whose names stand in names of lemmas.
 LIBRARY = set("append length take drop map replicate get_or set xors cons snoc nil word be int reverse filled placed".split())
@@ -28,6 +30,8 @@ RESPELLED_IN = {
     "crates/json_text/proofs/Decimals.antt": {"is_whole": "is_whole_value"},
     "crates/skrapnefja/": {"result": "plain_result"},
 }
+# The names of the fields of records: these turn behind a dot too.
+FIELDS = set()
 # A clause that port.py left with its binder.
 BOUND = re.compile(r"(requires|ensures)\* \{ λ r\. ⌜ (.*) ⌝ \}")
 
@@ -46,15 +50,20 @@ def read(path):
 
 
 def declared(path):
-    """The names that a file declares, each with whether it is a function's."""
+    """The names that a file declares, each with whether it is a record's field."""
+    inside = None
     for line in COMMENT.sub("", read(path)).split("\n"):
+        indent = len(line) - len(line.lstrip())
+        if line.strip() and inside is not None and indent <= inside:
+            inside = None
         typed = TYPED.match(line)
         if typed:
-            yield typed[1]
+            inside = indent
+            yield typed[1], False
             continue
         it = DECLARED.match(line)
         if it and not re.search(r": *tie\.|statement M$", line):
-            yield it[3]
+            yield it[3], inside is not None
 
 
 def snake(name):
@@ -80,8 +89,10 @@ def table():
     functions = set(LIBRARY)
     for path in files():
         if path.endswith(".antt"):
-            for n in declared(path):
+            for n, field in declared(path):
                 names[n].add(path)
+                if field:
+                    FIELDS.add(n)
                 if "/specs/" in path and re.match("[a-z]", n) and "-" not in n:
                     functions.add(snake(n))
     turned = {}
@@ -115,13 +126,17 @@ def turn_words(text, turned, alias=()):
         w = m[0]
         if w not in turned:
             return w
-        if "-" in w and text[m.start() - 1 : m.start()] == ".":
+        if "-" in w and text[m.start() - 1 : m.start()] == "." and w not in FIELDS:
             head = re.search(r'([^\s(){};,@"«»]+)\.$', text[: m.start()])
             if not head or head[1].split(".")[0] not in alias:
                 return w
         return turned[w]
 
     return WORD.sub(one, text)
+
+
+def of_library(text):
+    return {n.split(" as ")[0].strip() for m in OF_LIBRARY.finditer(text) for n in m[1].split(",")}
 
 
 def below(path):
@@ -141,7 +156,7 @@ def turn_undotted(text, table):
 
 
 def turn_antt(text, turned, path):
-    turned = dict(turned)
+    turned = {old: new for old, new in turned.items() if old not in of_library(text)}
     text = turn_undotted(text, {**RESPELLED, **below(path)})
     alias = {"Rattle"} | set(re.findall(r"(?m)^use \S+ as (\S+)", text)) - {"tie", "goal"}
     out, at = [], 0
@@ -155,6 +170,7 @@ def turn_antt(text, turned, path):
 
 def turn_rust(text, turned, path):
     alias = {"Rattle"} | set(re.findall(r"ghost use \S+ as (\w+)", text))
+    turned = {old: new for old, new in turned.items() if old not in of_library(text)}
     out, at = [], 0
     for start, end in clauses(text):
         if start < at:

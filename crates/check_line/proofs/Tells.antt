@@ -101,7 +101,7 @@ opened_exactly enc mac file k bytes size =
     let l = zeros_long file in
     let room : Room siv_gcm file out = λ r. let s = clear-short (length file) in omega arith in
     let line = tells_opening enc mac file out k.enc-size k.mac-size size l in
-    let opens = ((demand_three (vault_with enc mac SivGcm 220)).1 k).opens-exactly file out bytes room in
+    let opens = ((demand_three (vault_with enc mac SivGcm 220)).1 k).opens_exactly file out bytes room in
     let t = told (open_file (codec enc mac) file out).outcome in (
       (λ e. opens.0.0 (t.0 (ap (λ (s : List ℕ). get_or s 0 0) (sym line) ∙ e)), λ c. ap (λ (s : List ℕ). get_or s 0 0) line ∙ t.1 (opens.0.1 c)),
       λ c fits e. line ∙ ap (λ (x : End). line_of x.outcome) (opens.1 c fits e),

@@ -65,7 +65,7 @@ module _ (n k : ℕ) (right : Bool) (header : Sealing) (chunk : List ℕ → Sea
           chunk_nonce = λ h i m p ok e. (chunks h.key ok.key-bytes).sealed-nonce (chunk_data h.nonce i) m p e;
           chunk_good = λ h i m p ok e bn bp. (chunks h.key ok.key-bytes).sealed-opens (chunk_data h.nonce i) m p e;
           chunk_plain = λ h i m p ok e bn bp. (chunks h.key ok.key-bytes).sealed-opened (chunk_data h.nonce i) m p e;
-          good_chunk = λ h i c ok bytes long e. (chunks h.key ok.key-bytes).was-sealed (chunk_data h.nonce i) c long e;
+          good_chunk = λ h i c ok bytes long e. (chunks h.key ok.key-bytes).was_sealed (chunk_data h.nonce i) c long e;
           plain_size = plain_size;
           plain-bytes = λ h i c ok bytes. (chunks h.key ok.key-bytes).opened-bytes c bytes;
         }
@@ -81,7 +81,7 @@ module _ (n k : ℕ) (right : Bool) (header : Sealing) (chunk : List ℕ → Sea
           λ i. record { nonce = m i; reserved = r i; key = q i }
 
       good-written : (b : List ℕ) → length b ≡ payload_size + k → header.opens [] b ≡ true → b ≡ header.sealed [] (take n b) (payload_of (head_of b))
-      good-written b l e = s.was-sealed [] b (omega arith) e ∙ ap (header.sealed [] (take n b)) (sym (take-append-drop reserved_size (header.opened b)))
+      good-written b l e = s.was_sealed [] b (omega arith) e ∙ ap (header.sealed [] (take n b)) (sym (take-append-drop reserved_size (header.opened b)))
 
       good-fits : (b : List ℕ) → Bytes b → length b ≡ payload_size + k → HeadFits sizes (head_of b)
       good-fits b bytes l =

@@ -39,7 +39,7 @@ single_ends C = (
 )
 
 pub single_bytes : (C : Codec) → Laws C → SingleBytes C
-single_bytes C 𝓛 = (𝓛.header-bytes, 𝓛.chunk-laws.chunk_bytes)
+single_bytes C 𝓛 = (𝓛.header-bytes, 𝓛.chunk_laws.chunk_bytes)
 
 -- ---- lengths
 
@@ -83,7 +83,7 @@ module _ (C : Codec) (𝓛 : Laws C) where
         ap not 𝓛.keys-right,
         (ap not (eq-eqb (length b) z.header (𝓛.header-size h ok)), (le-ltb (length out) key_size room, (ap not (𝓛.header-good h ok), tt))),
       ) in
-      none_ends (open_header_rows C b (length out)) (key_size ∷ (head_of b).reserved) (filled (head_of b).key key_size out) out none ∙ rw (𝓛.header-says h ok)
+      none_ends (open_header_rows C b (length out)) (key_size ∷ (head_of b).reserved) (filled (head_of b).key key_size out) out none ∙ rw (𝓛.header_says h ok)
 
   pub header-opens_exactly : HeaderOpensExactly C
   unfolding open_header open_header_rows
@@ -129,17 +129,17 @@ module _ (C : Codec) (𝓛 : ChunkLaws C) where
   unfolding open_chunk open_chunk_rows
   chunk_opens h i n p out ok fits room =
       let c = chunk_of h i n p in
-      let l = 𝓛.chunk-size h i n p ok fits.nonce-size in
+      let l = 𝓛.chunk_size_lem h i n p ok fits.nonce-size in
       let m : length c - z.overhead ≡ length p = omega arith in
       let low = fits.some in
       let high = fits.clear-size in
       let sized = true_and (leb (z.overhead + 1) (length c)) (leb (length c) (stored z)) (le-leb (z.overhead + 1) (length c) (omega arith)) (le-leb (length c) (stored z) (omega arith)) in
       let none : NoRow (open_chunk_rows C h i c (length out)) = (
         ap not (fits-right z h ok),
-        (ap not sized, (le-ltb (length out) (length c - z.overhead) (omega arith), (ap not (𝓛.chunk-good h i n p ok fits.nonce-size fits.nonce-bytes fits.clear-bytes), tt))),
+        (ap not sized, (le-ltb (length out) (length c - z.overhead) (omega arith), (ap not (𝓛.chunk_good h i n p ok fits.nonce-size fits.nonce-bytes fits.clear-bytes), tt))),
       ) in
       none_ends (open_chunk_rows C h i c (length out)) ((length c - z.overhead) ∷ []) (filled (plain h i c) (length c - z.overhead) out) out none
-      ∙ rw (m, 𝓛.chunk-plain h i n p ok fits.nonce-size fits.nonce-bytes fits.clear-bytes)
+      ∙ rw (m, 𝓛.chunk_plain h i n p ok fits.nonce-size fits.nonce-bytes fits.clear-bytes)
 
   pub chunk_opens_exactly : ChunkOpensExactly C
   unfolding open_chunk open_chunk_rows
@@ -147,7 +147,7 @@ module _ (C : Codec) (𝓛 : ChunkLaws C) where
     where
       opens : (n p : List ℕ) → ChunkFits z n p → chunk_of h i n p ≡ c → open_chunk C h i c out ≡ ended (done (length p ∷ [])) (filled p (length p) out)
       opens n p fits e =
-          let l : length c ≡ length p + z.overhead = ap length (sym e) ∙ 𝓛.chunk-size h i n p ok fits.nonce-size in
+          let l : length c ≡ length p + z.overhead = ap length (sym e) ∙ 𝓛.chunk_size_lem h i n p ok fits.nonce-size in
           let k = fits.clear-size in
           let r = room (omega (arith, l, k)) in
           ap (λ (x : List ℕ). open_chunk C h i x out) (sym e) ∙ chunk_opens h i n p out ok fits (omega (arith, l, r))
@@ -169,7 +169,7 @@ module _ (C : Codec) (𝓛 : ChunkLaws C) where
               nonce-bytes = below_take z.nonce bytes;
               clear-bytes = 𝓛.plain-bytes h i c ok bytes;
             },
-            sym (𝓛.good-chunk h i c ok bytes (omega arith) (not-false (good h i c) r.1.1.1.0)),
+            sym (𝓛.good_chunk h i c ok bytes (omega arith) (not-false (good h i c) r.1.1.1.0)),
           )
 
   pub chunk_written_opens : ChunkWrittenOpens C
@@ -179,6 +179,6 @@ module _ (C : Codec) (𝓛 : ChunkLaws C) where
       let clear = true_and (leb 1 (length p)) (leb (length p) chunk_size) (le-leb 1 (length p) fits.some) (le-leb (length p) chunk_size fits.clear-size) in
       let none : NoRow (write_chunk_rows C h n p (length out)) = (ap not sized, (ap not clear, (le-ltb (length out) (length p + z.overhead) room, tt))) in (
         none_ends (write_chunk_rows C h n p (length out)) ((length p + z.overhead) ∷ []) (filled (chunk_of h i n p) (length p + z.overhead) out) out none
-            ∙ ap (λ (x : ℕ). ended (done (x ∷ [])) (filled (chunk_of h i n p) x out)) (sym (𝓛.chunk-size h i n p ok fits.nonce-size)),
+            ∙ ap (λ (x : ℕ). ended (done (x ∷ [])) (filled (chunk_of h i n p) x out)) (sym (𝓛.chunk_size_lem h i n p ok fits.nonce-size)),
         chunk_opens h i n p into ok fits roomy,
       )

@@ -27,7 +27,7 @@ module _ (C : Codec) (𝓛 : Laws C) where
   unfolding chunks_from
   chunks-bytes h ok i zero nonces clear bn bc = below_nil (zero-lt-suc 255)
   chunks-bytes h ok i (suc k) nonces clear bn bc =
-      below_append (𝓛.chunk-laws.chunk_bytes h i _ _ ok (below_take z.nonce bn) (below_take chunk_size bc))
+      below_append (𝓛.chunk_laws.chunk_bytes h i _ _ ok (below_take z.nonce bn) (below_take chunk_size bc))
       (chunks-bytes h ok (suc i) k (drop z.nonce nonces) (drop chunk_size clear) (below_drop z.nonce bn) (below_drop chunk_size bc))
 
   pub file-bytes : FileBytes C

@@ -52,8 +52,8 @@ module _ (key l : List ℕ) where
         label = ap (label_text k.header k.payload) (ap (hmac_sha256 key) k.signed ∙ mac) ∙ k.label;
         header-members = k.header-members;
         payload-members = k.payload-members;
-        header_object = k.header-object;
-        payload_object = k.payload-object;
+        header_object = k.header_object;
+        payload_object = k.payload_object;
         alg = k.alg ∙ ap (λ (x : List ℕ). text x ∷ []) alg;
         format = k.format ∙ ap₂ (λ (x : Bool) (y : ℕ). whole x y ∷ []) format.0 format.1;
         cipher-combo = k.combo;
@@ -108,12 +108,12 @@ module _ (key l : List ℕ) where
           signed = refl;
           header-members = o.header-members;
           payload-members = o.payload-members;
-          header_object = o.header-object;
-          payload_object = o.payload-object;
+          header_object = o.header_object;
+          payload_object = o.payload_object;
           alg = o.alg;
           format = o.format;
           combo = o.cipher-combo;
-          threshold = o.shortening-threshold;
+          threshold = o.shortening_threshold;
         }
 
     opened_as : (name ≡ siv_gcm_name) ⊎ (name ≡ siv_ctrmac_name) → open_label key l ≡ done (combo_number name ∷ threshold ∷ [])

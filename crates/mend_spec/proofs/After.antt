@@ -71,14 +71,14 @@ module _ (C : Codec) (𝓛 : Laws C) where
 
     pub g_length : length g ≡ length f
     unfolding mended
-    g_length = mended-length C 𝓛.chunk-laws h head-fits from new n k f s nonces shaped has o.counted ∙ sym shaped
+    g_length = mended-length C 𝓛.chunk_laws h head-fits from new n k f s nonces shaped has o.counted ∙ sym shaped
 
     pub g_shaped : length g ≡ file_length z n
     g_shaped = g_length ∙ shaped
 
     pub g_ahead : (m : ℕ) → m ≤ chunk_start z s → take m g ≡ take m f
     unfolding mended
-    g_ahead = mended_ahead C 𝓛.chunk-laws h head-fits from new n k f s nonces shaped has o.counted
+    g_ahead = mended_ahead C 𝓛.chunk_laws h head-fits from new n k f s nonces shaped has o.counted
 
     pub g_header : header_at z g ≡ header_at z f
     unfolding header_at
@@ -89,19 +89,19 @@ module _ (C : Codec) (𝓛 : Laws C) where
 
     pub g_behind : (m : ℕ) → chunk_start z (s + k) ≤ m → drop m g ≡ drop m f
     unfolding mended
-    g_behind = mended-behind C 𝓛.chunk-laws h head-fits from new n k f s nonces shaped has o.counted
+    g_behind = mended-behind C 𝓛.chunk_laws h head-fits from new n k f s nonces shaped has o.counted
 
     pub g_other : (j : ℕ) → (j < s) ⊎ (s + k ≤ j) → chunk_at z g j ≡ chunk_at z f j
     unfolding mended
-    g_other = mended-other C 𝓛.chunk-laws h head-fits from new n k f s nonces shaped has o.counted
+    g_other = mended-other C 𝓛.chunk_laws h head-fits from new n k f s nonces shaped has o.counted
 
     pub g_chunk : (j : ℕ) → s ≤ j → j < s + k → chunk_at z g j ≡ chunk_of h j (piece z.nonce nonces (j - s)) (patched j from new (plain h j (chunk_at z f j)))
     unfolding mended resealed
-    g_chunk = mended_chunk C 𝓛.chunk-laws h head-fits from new n k f s nonces shaped has o.counted
+    g_chunk = mended_chunk C 𝓛.chunk_laws h head-fits from new n k f s nonces shaped has o.counted
 
     pub g_bytes : Bytes g
     unfolding mended
-    g_bytes = mended-bytes C 𝓛.chunk-laws h head-fits from new bw k f s nonces bf bs
+    g_bytes = mended-bytes C 𝓛.chunk_laws h head-fits from new bw k f s nonces bf bs
 
     -- ---- a covering chunk is good, before and after
 
@@ -118,7 +118,7 @@ module _ (C : Codec) (𝓛 : Laws C) where
     nonce-bytes j = below_take z.nonce (below_drop (z.nonce * (j - s)) bs)
 
     old_bytes : (j : ℕ) → Bytes (plain h j (chunk_at z f j))
-    old_bytes j = 𝓛.chunk-laws.plain-bytes h j (chunk_at z f j) head-fits (bytes_chunk z f j bf)
+    old_bytes j = 𝓛.chunk_laws.plain-bytes h j (chunk_at z f j) head-fits (bytes_chunk z f j bf)
 
     new_bytes : (j : ℕ) → Bytes (patched j from new (plain h j (chunk_at z f j)))
     new_bytes j = patched-bytes_below j from new (plain h j (chunk_at z f j)) bw (old_bytes j)
@@ -128,10 +128,10 @@ module _ (C : Codec) (𝓛 : Laws C) where
     was_good j a b = let t = o.tagged in below_good z (good h) f s k j a (omega (arith, t, b))
 
     is_good : (j : ℕ) → s ≤ j → j < s + k → good h j (chunk_at z g j) ≡ true
-    is_good j a b = ap (good h j) (g_chunk j a b) ∙ 𝓛.chunk-laws.chunk-good h j _ _ head-fits (nonce_long j a b) (nonce-bytes j) (new_bytes j)
+    is_good j a b = ap (good h j) (g_chunk j a b) ∙ 𝓛.chunk_laws.chunk_good h j _ _ head-fits (nonce_long j a b) (nonce-bytes j) (new_bytes j)
 
     is_plain : (j : ℕ) → s ≤ j → j < s + k → plain h j (chunk_at z g j) ≡ patched j from new (plain h j (chunk_at z f j))
-    is_plain j a b = ap (plain h j) (g_chunk j a b) ∙ 𝓛.chunk-laws.chunk-plain h j _ _ head-fits (nonce_long j a b) (nonce-bytes j) (new_bytes j)
+    is_plain j a b = ap (plain h j) (g_chunk j a b) ∙ 𝓛.chunk_laws.chunk_plain h j _ _ head-fits (nonce_long j a b) (nonce-bytes j) (new_bytes j)
 
     -- a chunk covers the range, or it does not
     pub either : (j : ℕ) → ((s ≤ j) × (j < s + k)) ⊎ ((j < s) ⊎ (s + k ≤ j))
@@ -156,7 +156,7 @@ module _ (C : Codec) (𝓛 : Laws C) where
 
     pub clear_long : length (clear_of C f) ≡ n
     unfolding clear_of
-    clear_long = length-clear z (plain h) (𝓛.chunk-laws.plain_size h) f n shaped
+    clear_long = length-clear z (plain h) (𝓛.chunk_laws.plain_size h) f n shaped
 
     pub within : from + length new ≤ length (clear_of C f)
     within = let l = clear_long in let w = o.inside.within in omega arith
@@ -167,7 +167,7 @@ module _ (C : Codec) (𝓛 : Laws C) where
       where
         short : length (plain h j (chunk_at z f j)) ≤ chunk_size
         short =
-            let a = 𝓛.chunk-laws.plain_size h j (chunk_at z f j) in
+            let a = 𝓛.chunk_laws.plain_size h j (chunk_at z f j) in
             let b = chunk_length z f n j shaped l in
             omega (arith, a, b)
 
@@ -188,7 +188,7 @@ module _ (C : Codec) (𝓛 : Laws C) where
         ⊎_elim (λ (c : (s ≤ j) × (j < s + k)). is_plain j c.0 c.1)
         (λ (c : (j < s) ⊎ (s + k ≤ j)). ap (plain h j) (g_other j c) ∙ sym (beside j l c))
         (either j)
-        ∙ ap (patched j from new) (sym (clear-piece z (plain h) (𝓛.chunk-laws.plain_size h) f n j shaped l))
+        ∙ ap (patched j from new) (sym (clear-piece z (plain h) (𝓛.chunk_laws.plain_size h) f n j shaped l))
         ∙ patched-parts j from new (clear_of C f) within
 
     pub clear-mended : clear_of C g ≡ placed new from (clear_of C f)
@@ -257,7 +257,7 @@ module _ (C : Codec) (𝓛 : Laws C) where
   pub mended-chunks : MendedChunks C
   mended-chunks f from new nonces m i v =
       ap (λ (x : List ℕ). chunk_at z x i) (after_is f from new nonces m)
-      ∙ g_chunk f from new nonces m.file-bytes m.new-bytes m.nonces-bytes (mends_of f from new nonces m) i v.low (covers_count from (length new) i v.some v.low v.high)
+      ∙ g_chunk f from new nonces m.file-bytes m.new_bytes m.nonces-bytes (mends_of f from new nonces m) i v.low (covers_count from (length new) i v.some v.low v.high)
 
   -- a place among the k chunks from number s up to e is in one of them
   in_chunk : (k s e p : ℕ) → e ≡ s + k → chunk_start z s ≤ p → p < chunk_start z e → (i : ℕ) × (s ≤ i) × (i < e) × (chunk_start z i ≤ p) × (p < chunk_start z (i + 1))
@@ -287,7 +287,7 @@ module _ (C : Codec) (𝓛 : Laws C) where
       bf = m.file-bytes
 
       bw : Bytes new
-      bw = m.new-bytes
+      bw = m.new_bytes
 
       bs : Bytes nonces
       bs = m.nonces-bytes
@@ -340,17 +340,17 @@ module _ (C : Codec) (𝓛 : Laws C) where
   pub mended_reads : MendedReads C
   mended_reads f from new nonces m at count out =
       ap (λ (x : List ℕ). read_range C x at count out) (after_is f from new nonces m)
-      ∙ g_reads f from new nonces m.file-bytes m.new-bytes m.nonces-bytes (mends_of f from new nonces m) at count out
+      ∙ g_reads f from new nonces m.file-bytes m.new_bytes m.nonces-bytes (mends_of f from new nonces m) at count out
 
   pub mended_reads_back : MendedReadsBack C
   mended_reads_back f from new nonces out m room =
       ap (λ (x : List ℕ). read_range C x from (length new) out) (after_is f from new nonces m)
-      ∙ g_reads_back f from new nonces m.file-bytes m.new-bytes m.nonces-bytes (mends_of f from new nonces m) out room
+      ∙ g_reads_back f from new nonces m.file-bytes m.new_bytes m.nonces-bytes (mends_of f from new nonces m) out room
 
   pub mended-opens : MendedOpens C
   mended-opens f from new nonces out into m ro ri =
       let a = ap (λ (x : List ℕ). open_file C x into) (after_is f from new nonces m) in
-      let g = g_opens f from new nonces m.file-bytes m.new-bytes m.nonces-bytes (mends_of f from new nonces m) out into ro ri in (
+      let g = g_opens f from new nonces m.file-bytes m.new_bytes m.nonces-bytes (mends_of f from new nonces m) out into ro ri in (
         (λ d. g.0 (subst Succeeded a d), λ d. (clear_length z (length f) ∷ [], ap (λ (x : End). x.outcome) (a ∙ g.1 d))),
         λ d. a ∙ g.1 d,
       )

@@ -111,14 +111,14 @@ module _ (C : Codec) (𝓛 : Laws C) where
           nonces-size = placed-length nonces c.nonces (z.nonce * s) nonces_fit ∙ fits.nonces-size ∙ ap (λ (l : ℕ). z.nonce * chunks l) (sym e);
           clear-size = let l = fits.clear-size in omega (arith, l, e);
           nonces-bytes = below_placed nonces c.nonces (z.nonce * s) m.nonces-bytes fits.nonces-bytes;
-          clear-bytes = below_placed new c.clear from m.new-bytes fits.clear-bytes;
+          clear-bytes = below_placed new c.clear from m.new_bytes fits.clear-bytes;
         }
 
     long : length (after C f from new nonces) ≡ length f
-    long = ap length (after_is C 𝓛 f from new nonces m) ∙ g_length C 𝓛 f from new nonces m.file-bytes m.new-bytes m.nonces-bytes o
+    long = ap length (after_is C 𝓛 f from new nonces m) ∙ g_length C 𝓛 f from new nonces m.file-bytes m.new_bytes m.nonces-bytes o
 
     headed : header_at z (after C f from new nonces) ≡ header_at z f
-    headed = ap (header_at z) (after_is C 𝓛 f from new nonces m) ∙ g_header C 𝓛 f from new nonces m.file-bytes m.new-bytes m.nonces-bytes o
+    headed = ap (header_at z) (after_is C 𝓛 f from new nonces m) ∙ g_header C 𝓛 f from new nonces m.file-bytes m.new_bytes m.nonces-bytes o
 
     head : head_in C f ≡ c.head
     head = head_alike C f (file_of C c) alike.same-header ∙ written.file-head C 𝓛 c fits

@@ -101,7 +101,7 @@ module _ (C : Codec) (𝓛 : ChunkLaws C) (h : Head) (ok : HeadFits C.sizes h) (
   reseal_length : (i : ℕ) (n c : List ℕ) → length n ≡ z.nonce → z.overhead ≤ length c → length (reseal i n c) ≡ length c
   unfolding resealed
   reseal_length i n c l o =
-      let a = 𝓛.chunk-size h i n (patched i from new (plain h i c)) ok l in
+      let a = 𝓛.chunk_size_lem h i n (patched i from new (plain h i c)) ok l in
       let b = patched-length i from new (plain h i c) in
       let d = 𝓛.Plain-size h i c in
       omega arith

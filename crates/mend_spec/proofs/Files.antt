@@ -81,7 +81,7 @@ module _ (C : Codec) (𝓛 : Laws C) where
     ending_chunk = let e = covers_end n from (length new) (s + k) refl o.inside.within in omega (arith, e)
 
     old_long : length old ≡ z.nonce * chunks n
-    old_long = length-nonces z 𝓛.chunk-laws.nonce-size f n (shaped C 𝓛 f from new nonces bf bw bs o)
+    old_long = length-nonces z 𝓛.chunk_laws.nonce-size f n (shaped C 𝓛 f from new nonces bf bw bs o)
 
     fit : z.nonce * s + length nonces ≤ length old
     fit =
@@ -97,11 +97,11 @@ module _ (C : Codec) (𝓛 : Laws C) where
         let low : z.nonce * s ≤ length old = omega (arith, q) in
         ⊎_elim (λ (c : (s ≤ j) × (j < s + k)).
         ap (take z.nonce) (g_chunk C 𝓛 f from new nonces bf bw bs o j c.0 c.1)
-        ∙ 𝓛.chunk-laws.chunk-nonce (head_in C f) j _ _ (head-fits C 𝓛 f from new nonces bf bw bs o) (nonce_long C 𝓛 f from new nonces bf bw bs o j c.0 c.1)
+        ∙ 𝓛.chunk_laws.chunk_nonce (head_in C f) j _ _ (head-fits C 𝓛 f from new nonces bf bw bs o) (nonce_long C 𝓛 f from new nonces bf bw bs o j c.0 c.1)
         ∙ sym (pieces-within z.nonce s k nonces old o.counted low j c.0 c.1))
         (λ (c : (j < s) ⊎ (s + k ≤ j)).
         ap (take z.nonce) (g_other C 𝓛 f from new nonces bf bw bs o j c)
-        ∙ sym (nonce-piece z 𝓛.chunk-laws.nonce-size f n j (shaped C 𝓛 f from new nonces bf bw bs o) l)
+        ∙ sym (nonce-piece z 𝓛.chunk_laws.nonce-size f n j (shaped C 𝓛 f from new nonces bf bw bs o) l)
         ∙ sym (pieces_beside z.nonce s k nonces old o.counted low j c))
         (either C 𝓛 f from new nonces bf bw bs o j)
 
@@ -133,24 +133,24 @@ module _ (C : Codec) (𝓛 : Laws C) where
 
     roomy' : Room z g' room
     roomy' e =
-        let l = ap (clear_length z) (g_length C 𝓛 f from new nonces m.file-bytes m.new-bytes m.nonces-bytes o) in
-        let r = roomy (sym (ap (right_length z) (g_length C 𝓛 f from new nonces m.file-bytes m.new-bytes m.nonces-bytes o)) ∙ e) in
+        let l = ap (clear_length z) (g_length C 𝓛 f from new nonces m.file-bytes m.new_bytes m.nonces-bytes o) in
+        let r = roomy (sym (ap (right_length z) (g_length C 𝓛 f from new nonces m.file-bytes m.new_bytes m.nonces-bytes o)) ∙ e) in
         omega (arith, l, r)
 
     opens : Succeeded (open_file C g' room)
     opens =
         let a = (opens_exactly C 𝓛 f room m.file-bytes roomy).0.1 (c, fits, refl) in
-        let b = (g_opens C 𝓛 f from new nonces m.file-bytes m.new-bytes m.nonces-bytes o room room roomy roomy).1 a in
+        let b = (g_opens C 𝓛 f from new nonces m.file-bytes m.new_bytes m.nonces-bytes o room room roomy roomy).1 a in
         (clear_length z (length f) ∷ [], ap (λ (x : End). x.outcome) b)
 
     -- the choice that the mended file says
     said : (d : Choice) × Fits z d × (file_of C d ≡ g')
-    said = (opens_exactly C 𝓛 g' room (g_bytes C 𝓛 f from new nonces m.file-bytes m.new-bytes m.nonces-bytes o) roomy').0.0 opens
+    said = (opens_exactly C 𝓛 g' room (g_bytes C 𝓛 f from new nonces m.file-bytes m.new_bytes m.nonces-bytes o) roomy').0.0 opens
 
     same_choice : (d : Choice) → Fits z d → file_of C d ≡ g' → d ≡ mended_choice z c from new nonces
     same_choice d ok e =
         let bf = m.file-bytes in
-        let bw = m.new-bytes in
+        let bw = m.new_bytes in
         let bs = m.nonces-bytes in
         let p : d.head ≡ c.head = sym (written.file-head C 𝓛 d ok) ∙ ap (head_in C) e ∙ g_head C 𝓛 f from new nonces bf bw bs o ∙ written.file-head C 𝓛 c fits in
         let q : d.nonces ≡ placed nonces (z.nonce * (from / chunk_size)) c.nonces =

@@ -41,14 +41,14 @@ module _ (C : Codec) (𝓛 : Laws C) where
     lent : (i : ℕ) → s ≤ i → i < s + k → nonce_in z (after C f from new nonces) i ≡ piece z.nonce nonces (i - s)
     lent i a b =
         ap (λ (x : List ℕ). nonce_in z x i) (after_is C 𝓛 f from new nonces m)
-        ∙ ap (take z.nonce) (g_chunk C 𝓛 f from new nonces m.file-bytes m.new-bytes m.nonces-bytes o i a b)
-        ∙ 𝓛.chunk-laws.chunk-nonce (head_in C f) i _ _ (head-fits C 𝓛 f from new nonces m.file-bytes m.new-bytes m.nonces-bytes o)
-        (nonce_long C 𝓛 f from new nonces m.file-bytes m.new-bytes m.nonces-bytes o i a b)
+        ∙ ap (take z.nonce) (g_chunk C 𝓛 f from new nonces m.file-bytes m.new_bytes m.nonces-bytes o i a b)
+        ∙ 𝓛.chunk_laws.chunk_nonce (head_in C f) i _ _ (head-fits C 𝓛 f from new nonces m.file-bytes m.new_bytes m.nonces-bytes o)
+        (nonce_long C 𝓛 f from new nonces m.file-bytes m.new_bytes m.nonces-bytes o i a b)
 
     kept : (i : ℕ) → (i < s) ⊎ (s + k ≤ i) → nonce_in z (after C f from new nonces) i ≡ nonce_in z f i
     kept i c =
         ap (λ (x : List ℕ). nonce_in z x i) (after_is C 𝓛 f from new nonces m)
-        ∙ ap (take z.nonce) (g_other C 𝓛 f from new nonces m.file-bytes m.new-bytes m.nonces-bytes o i c)
+        ∙ ap (take z.nonce) (g_other C 𝓛 f from new nonces m.file-bytes m.new_bytes m.nonces-bytes o i c)
 
     not_old : (i j : ℕ) → s ≤ i → i < s + k → j < chunks (clear_length z (length f)) → nonce_in z (after C f from new nonces) i ≡ nonce_in z f j → ⊥
     not_old i j a b c e =
@@ -68,7 +68,7 @@ module _ (C : Codec) (𝓛 : Laws C) where
         (λ (x : j < i). both_lent j i v.0 x b (sym e))
         (le_or_lt i j))
         (λ (v : (j < s) ⊎ (s + k ≤ j)). not_old i j a b c (e ∙ kept j v))
-        (either C 𝓛 f from new nonces m.file-bytes m.new-bytes m.nonces-bytes o j)
+        (either C 𝓛 f from new nonces m.file-bytes m.new_bytes m.nonces-bytes o j)
 
   pub mended_fresh : MendedFresh C
   mended_fresh f from new nonces m i j v c =

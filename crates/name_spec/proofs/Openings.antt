@@ -78,7 +78,7 @@ module _ (threshold : ℕ) (limits : ThresholdFits threshold) (enc mac id from n
   within = (threshold_exactly threshold).1 limits
 
   placed : id_right id ≡ true
-  placed = (id_exactly id).1 d.id-fits
+  placed = (id_exactly id).1 d.id_fits
 
   right : text_right (full_name enc mac from name) ≡ true
   right = full-right enc mac from name d.enc-bytes d.mac-bytes bytes size
@@ -263,7 +263,7 @@ unfolding write_name_rows
 name-written-opens threshold enc mac id name stored full into limits d fits room roomy =
     let f = full_name enc mac id name in
     let l = length-full enc mac id name in
-    let met : Met (write_name_rules threshold enc mac id name (length stored) (length full)) = (limits, (d.keys, (d.id-fits, (fits, (subst (NameRoom threshold (length stored) (length full)) l room, tt))))) in
+    let met : Met (write_name_rules threshold enc mac id name (length stored) (length full)) = (limits, (d.keys, (d.id_fits, (fits, (subst (NameRoom threshold (length stored) (length full)) l room, tt))))) in
     let none = (met_exactly (write_name_rows threshold enc mac id name (length stored) (length full)) (write_name_rules threshold enc mac id name (length stored) (length full)) (write_matches threshold enc mac id name (length stored) (length full))).1 met in
     let done-so = ((name_ends threshold enc mac id).0 name stored full).1.1 none in
     let bytes = bytes_of name fits in (

@@ -59,8 +59,8 @@ ranges_stay C 𝓛 f at new nonces m from count out none =
         → ending o (filled (drop from (placed new at (clear_of C f))) count out) out ≡ ending o (filled (drop from (clear_of C f)) count out) out
     go (done l) e =
         let o = mends_of C 𝓛 f at new nonces m in
-        let a = within C 𝓛 f at new nonces m.file-bytes m.new-bytes m.nonces-bytes o in
-        let b = clear_long C 𝓛 f at new nonces m.file-bytes m.new-bytes m.nonces-bytes o in
+        let a = within C 𝓛 f at new nonces m.file-bytes m.new_bytes m.nonces-bytes o in
+        let b = clear_long C 𝓛 f at new nonces m.file-bytes m.new_bytes m.nonces-bytes o in
         let c = (reads C f from count (length out) l e).inside.within in
         let d : from + count ≤ length (clear_of C f) = omega (arith, b, c) in
         ap (λ (x : List ℕ). ending (done l) (x ++ drop count out) out) (part_stays new (clear_of C f) at from count a d none)

@@ -84,7 +84,7 @@ module _ (v : Vault) (f : List ℕ) (from : ℕ) (new nonces : List ℕ) (keys :
   same_length = (mended-rest D 𝓛 f from new nonces m).0
 
   pub same-header : header_at D.sizes g ≡ header_at D.sizes f
-  same-header = ap (header_at D.sizes) (after_is D 𝓛 f from new nonces m) ∙ g_header D 𝓛 f from new nonces m.file-bytes m.new-bytes m.nonces-bytes o
+  same-header = ap (header_at D.sizes) (after_is D 𝓛 f from new nonces m) ∙ g_header D 𝓛 f from new nonces m.file-bytes m.new_bytes m.nonces-bytes o
 
   pub passes_before : Passes v f
   unfolding header_at

@@ -95,11 +95,11 @@ module _ (C : Codec) where
 
     good-said : good (head_through C (reader_of C f)) ≡ good (head_in C f)
     unfolding reader_of
-    good-said = ap (λ (n : List ℕ). good (head_with n [] (head_in C f).key)) said ∙ laws.good-alike (head_in C f).nonce [] (head_in C f).reserved (head_in C f).key
+    good-said = ap (λ (n : List ℕ). good (head_with n [] (head_in C f).key)) said ∙ laws.good_alike (head_in C f).nonce [] (head_in C f).reserved (head_in C f).key
 
     plain-said : plain (head_through C (reader_of C f)) ≡ plain (head_in C f)
     unfolding reader_of
-    plain-said = ap (λ (n : List ℕ). plain (head_with n [] (head_in C f).key)) said ∙ laws.plain-alike (head_in C f).nonce [] (head_in C f).reserved (head_in C f).key
+    plain-said = ap (λ (n : List ℕ). plain (head_with n [] (head_in C f).key)) said ∙ laws.plain_alike (head_in C f).nonce [] (head_in C f).reserved (head_in C f).key
 
     clear-said : clear_through C (reader_of C f) ≡ clear_of C f
     unfolding clear_through clear_of reader_of

@@ -2,7 +2,7 @@
 -- Assumes nothing.
 use Prim.Native.Nat.{ℕ}
 use mathlib.Core.Path.{◌≡◌, refl}
-use mathlib.Core.Bool.{true, ◌&&◌, or_true}
+use mathlib.Core.Bool.{true, ◌&&◌, or-true}
 use mathlib.Core.List.{List, [], ◌∷◌}
 use mathlib.Core.Logic.{⊎_elim}
 use Rattle.octets.proofs.Equality.{and_true}
@@ -52,18 +52,18 @@ more1 a (b ∷ c ∷ d ∷ s) p h = rw (p, h)
 
 more2 : (a b : ℕ) (s : List ℕ) → utf8_2 a b ≡ true → well_formed s ≡ true → well_formed (a ∷ b ∷ s) ≡ true
 unfolding well_formed
-more2 a b [] p h = rw (p, or_true)
-more2 a b (c ∷ []) p h = rw (p, h, or_true)
-more2 a b (c ∷ d ∷ s) p h = rw (p, h, or_true)
+more2 a b [] p h = rw (p, or-true)
+more2 a b (c ∷ []) p h = rw (p, h, or-true)
+more2 a b (c ∷ d ∷ s) p h = rw (p, h, or-true)
 
 more3 : (a b c : ℕ) (s : List ℕ) → utf8_3 a b c ≡ true → well_formed s ≡ true → well_formed (a ∷ b ∷ c ∷ s) ≡ true
 unfolding well_formed
-more3 a b c [] p h = rw (p, or_true)
-more3 a b c (d ∷ s) p h = rw (p, h, or_true)
+more3 a b c [] p h = rw (p, or-true)
+more3 a b c (d ∷ s) p h = rw (p, h, or-true)
 
 more4 : (a b c d : ℕ) (s : List ℕ) → utf8_4 a b c d ≡ true → well_formed s ≡ true → well_formed (a ∷ b ∷ c ∷ d ∷ s) ≡ true
 unfolding well_formed
-more4 a b c d s p h = rw (p, h, or_true)
+more4 a b c d s p h = rw (p, h, or-true)
 
 pub chars_formed : {s : List ℕ} → Chars s → well_formed s ≡ true
 unfolding well_formed

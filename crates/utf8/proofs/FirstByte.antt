@@ -2,7 +2,7 @@
 -- Assumes nothing.
 use Prim.Native.Nat.{ℕ, ◌<◌, ◌≤◌}
 use mathlib.Core.Path.{◌≡◌, ◌∙◌}
-use mathlib.Core.Bool.{true, false, ◌&&◌, ◌||◌, and_true, and-false, and_assoc, or-false}
+use mathlib.Core.Bool.{true, false, ◌&&◌, ◌||◌, and-true, and-false, and_assoc, or-false}
 use mathlib.Core.List.{List, [], ◌∷◌}
 use mathlib.Core.Logic.{⊎_elim}
 use native.Mathlib.Omega.{arith}
@@ -30,7 +30,7 @@ module _ (a : ℕ) where
         → (s : List ℕ) → well_formed (a ∷ s) ≡ continued 1 0x80 0xbf s
     unfolding well_formed continued
     only_two p n3 n4 [] = n1
-    only_two p n3 n4 (b ∷ []) = rw (n1, p b, and_true)
+    only_two p n3 n4 (b ∷ []) = rw (n1, p b, and-true)
     only_two p n3 n4 (b ∷ c ∷ []) = rw (n1, p b, n3 b c, or-false)
     only_two p n3 n4 (b ∷ c ∷ d ∷ s) = rw (n1, p b, n3 b c, n4 b c d, or-false, or-false)
 
@@ -40,7 +40,7 @@ module _ (a : ℕ) where
       unfolding well_formed continued
       only_three lo hi p n4 [] = n1
       only_three lo hi p n4 (b ∷ []) = rw (n1, n2 b, and-false)
-      only_three lo hi p n4 (b ∷ c ∷ []) = rw (n1, n2 b, p b c, and_true)
+      only_three lo hi p n4 (b ∷ c ∷ []) = rw (n1, n2 b, p b c, and-true)
       only_three lo hi p n4 (b ∷ c ∷ d ∷ s) = rw (n1, n2 b, p b c, n4 b c d, or-false) (and_assoc (within lo hi b) (tail c) (well_formed (d ∷ s)))
 
       module _ (n3 : (b c : ℕ) → utf8_3 a b c ≡ false) where

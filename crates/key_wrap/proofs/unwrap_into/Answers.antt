@@ -9,9 +9,7 @@ use Rattle.key_wrap.proofs.Parts.{good_under_lem, plain_under_lem}
 use Rattle.key_wrap.proofs.unwrap_into.Goals as goal
 
 pub unwrapped-x-requires : goal.unwrapped-x-requires
-unwrapped-x-requires c =
-    let u = c.unmix_keys in
-    (c.table-t.ensures, ((search rules, search rules), (u.ensures, search rules)))
+unwrapped-x-requires c = let u = c.unmix_keys in record { t_value = c.table-t.ensures; in_bounds = (search rules, search rules); unmixed_keys = u.ensures; s_len = search rules }
 
 pub returns-then-not-checks : goal.returns-then-not-checks
 returns-then-not-checks c =

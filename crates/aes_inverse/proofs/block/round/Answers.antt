@@ -22,7 +22,7 @@ unmixed {w} i u e a b = subst (λ (z : ℕ). Unmixed z (get_or w i 0)) (sym e) (
 
 pub returns : goal.returns
 unfolding word_bytes xors inv_shift_rows inv_sub_bytes inv_mix_columns add_round_key
-returns c =
+returns c w u =
     let x = c.args in
     let y = x.x in
     let p = c.requires.le_n in

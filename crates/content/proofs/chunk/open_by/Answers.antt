@@ -47,7 +47,7 @@ same SivCtrmac enc mac = refl
 
 pub returns-then-not-head_right : goal.returns-then-not-head_right
 unfolding open_chunk_rows
-returns-then-not-head_right c =
+returns-then-not-head_right c enc reserved =
     let by : (enc reserved : List ℕ) →
     let x = c.args in
     let h = head_with x.header-nonce.now reserved x.key.now in
@@ -77,7 +77,7 @@ overflow_add-z-2 c =
 
 pub returns-then-not-within : goal.returns-then-not-within
 unfolding open_chunk_rows
-returns-then-not-within c =
+returns-then-not-within c enc reserved =
     let by : (enc reserved : List ℕ) →
     let x = c.args in
     let h = head_with x.header-nonce.now reserved x.key.now in
@@ -115,7 +115,7 @@ overflow_sub-n c =
 
 pub returns-then-out-n : goal.returns-then-out-n
 unfolding open_chunk_rows
-returns-then-out-n c =
+returns-then-out-n c enc reserved =
     let by : (enc reserved : List ℕ) →
     let x = c.args in
     let h = head_with x.header-nonce.now reserved x.key.now in
@@ -179,7 +179,7 @@ open_under-requires c =
 
 pub returns-then-not-open_under : goal.returns-then-not-open_under
 unfolding open_chunk_rows
-returns-then-not-open_under c =
+returns-then-not-open_under c enc reserved =
     let by : (enc reserved : List ℕ) →
     let x = c.args in
     let h = head_with x.header-nonce.now reserved x.key.now in
@@ -215,7 +215,7 @@ returns-then-not-open_under c =
 
 pub returns : goal.returns
 unfolding open_chunk_rows
-returns c =
+returns c enc reserved =
     let by : (enc reserved : List ℕ) →
     let x = c.args in
     let h = head_with x.header-nonce.now reserved x.key.now in

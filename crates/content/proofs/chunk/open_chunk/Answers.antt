@@ -4,4 +4,4 @@ use borrow.Author.Rules.{rules}
 use Rattle.content.proofs.chunk.open_chunk.Goals as goal
 
 pub returns : goal.returns
-returns c = c.open_by.ensures _ reserved
+returns c reserved = c.open_by.ensures _ reserved

@@ -42,7 +42,7 @@ codec z k enc mac =
 
 pub returns-then-not-head_right : goal.returns-then-not-head_right
 unfolding write_chunk_rows
-returns-then-not-head_right c =
+returns-then-not-head_right c enc reserved =
     let by : (enc reserved : List ℕ) →
     let x = c.args in
     let h = head_with x.header-nonce.now reserved x.key.now in
@@ -66,7 +66,7 @@ returns-then-not-head_right c =
 
 pub returns-then-nonce-z : goal.returns-then-nonce-z
 unfolding write_chunk_rows
-returns-then-nonce-z c =
+returns-then-nonce-z c enc reserved =
     let by : (enc reserved : List ℕ) →
     let x = c.args in
     let h = head_with x.header-nonce.now reserved x.key.now in
@@ -92,7 +92,7 @@ returns-then-nonce-z c =
 
 pub returns-then-not-within : goal.returns-then-not-within
 unfolding write_chunk_rows
-returns-then-not-within c =
+returns-then-not-within c enc reserved =
     let by : (enc reserved : List ℕ) →
     let x = c.args in
     let h = head_with x.header-nonce.now reserved x.key.now in
@@ -131,7 +131,7 @@ overflow_add-n c =
 
 pub returns-then-out-n : goal.returns-then-out-n
 unfolding write_chunk_rows
-returns-then-out-n c =
+returns-then-out-n c enc reserved =
     let by : (enc reserved : List ℕ) →
     let x = c.args in
     let h = head_with x.header-nonce.now reserved x.key.now in
@@ -194,7 +194,7 @@ seal_under-requires c =
 
 pub returns : goal.returns
 unfolding write_chunk_rows
-returns c =
+returns c enc reserved =
     let by : (enc reserved : List ℕ) →
     let x = c.args in
     let h = head_with x.header-nonce.now reserved x.key.now in

@@ -4,4 +4,4 @@ use borrow.Author.Rules.{rules}
 use Rattle.content.proofs.chunk.write_chunk.Goals as goal
 
 pub returns : goal.returns
-returns c = c.write_by.ensures _ reserved
+returns c reserved = c.write_by.ensures _ reserved

@@ -21,8 +21,7 @@ use Rattle.file_mend.proofs.inside.mend_under.Goals as goal
 pub lowest_bad-i-requires : goal.lowest_bad-i-requires
 lowest_bad-i-requires c =
     let e = c.end_chunk-e in
-    let x = c.args in
-    (c.prepare.ensures.0, (c.requires.key_len.1, c.requires.key_len.2, covers_end x.n x.from (length x.new.now) e.result e.ensures c.requires.key_len.3, omega (arith, e.ensures)))
+    let x = c.args in record { keyed = c.prepare.ensures.0; header_nonce_len = (c.requires.key_len.1, c.requires.key_len.2, covers_end x.n x.from (length x.new.now) e.result e.ensures c.requires.key_len.3, omega (arith, e.ensures)) }
 
 pub returns-then-i-e : goal.returns-then-i-e
 unfolding bad_under

@@ -42,8 +42,7 @@ lowest_bad-i-requires c =
     let h = held x.combo (length x.file.now) x.n c.requires.key_len.1 in
     length-take-le c.sizes_of-s.result.nonce x.file.now (omega (arith, nonce-size, h)) ∙ nonce-size in
     let e = c.end_chunk-e in
-    let x = c.args in
-    (c.prepare.ensures.0, (nonce_long, c.requires.key_len.1, covers_end x.n x.from x.count e.result e.ensures c.requires.key_len.2, omega (arith, e.ensures)))
+    let x = c.args in record { keyed = c.prepare.ensures.0; header_nonce_len = (nonce_long, c.requires.key_len.1, covers_end x.n x.from x.count e.result e.ensures c.requires.key_len.2, omega (arith, e.ensures)) }
 
 pub returns-then-i-e : goal.returns-then-i-e
 unfolding bad_under

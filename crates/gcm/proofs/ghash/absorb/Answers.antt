@@ -25,6 +25,6 @@ loop-i-preserved c =
     (omega arith, λ h t. c.loop-i.invariant.1 h t ∙ hash_more h x.s.now (value c.loop-i.z) (value c.step-z.result) c.loop-i.i _ k c.block_of.ensures (c.step-z.ensures h t))
 
 pub returns : goal.returns
-returns c =
+returns c h t =
     let x = c.args in
     sym (c.loop-i.invariant.1 h t ∙ hash_none h x.s.now (value c.loop-i.z) c.loop-i.i (omega arith))

@@ -15,7 +15,7 @@ use Rattle.gcm.proofs.Hashing.{hash_block, hash_all}
 use Rattle.gcm.proofs.ghash.hashed.Goals as goal
 
 pub returns : goal.returns
-returns c =
+returns c h e =
     let x = c.args in
     let a = x.aad.now in
     let d = x.ciphertext.now in

@@ -9,6 +9,6 @@ use Rattle.gcm.specs.Field as spec
 use Rattle.gcm.proofs.ghash.step.Goals as goal
 
 pub returns : goal.returns
-returns c =
+returns c h e =
     let x = c.args in
     c.times.ensures h e ∙ ap (λ (z : ℕ). spec.mul z h) (c.add.ensures ∙ ap (bit_xor (value x.y)) c.of_block.ensures)

@@ -33,7 +33,7 @@ loop-n-preserved c =
     )
 
 pub returns : goal.returns
-returns c =
+returns c h e =
     let l = c.loop-n in
     let x = c.args.x in
     let n : l.n ≡ 8 = omega arith in

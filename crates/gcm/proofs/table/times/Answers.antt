@@ -5,4 +5,4 @@ use borrow.Author.Rules.{rules}
 use Rattle.gcm.proofs.table.times.Goals as goal
 
 pub returns : goal.returns
-returns c = c.reduce.ensures ∙ c.product.ensures h e
+returns c h e = c.reduce.ensures ∙ c.product.ensures h e

@@ -30,7 +30,7 @@ stop_from-j-requires c =
   where
     ends : (a b r : ℕ) → ((a ≤ b → r ≡ a) × (b ≤ a → r ≡ b)) → (r ≤ a) × (r ≤ b)
     ends a b r e = ⊎_elim (λ h. let q = e.0 h in (omega arith, omega arith)) (λ h. let q = e.1 (omega arith) in (omega arith, omega arith)) (le_or_lt a b) in
-    (c.requires.t_value, omega (arith, (start).0, c.requires.leading.inside))
+    record { t_value = c.requires.t_value; from_in_bounds = omega (arith, (start).0, c.requires.leading.inside) }
 
 pub slice_bounds-whole_stem-end : goal.slice_bounds-whole_stem-end
 slice_bounds-whole_stem-end c =

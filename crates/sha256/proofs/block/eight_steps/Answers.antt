@@ -8,7 +8,7 @@ at : (w : List ℕ) (s : Variables) (m n : ℕ) → m ≡ n → steps w m s ≡ 
 at w s m n e = ap (λ (i : ℕ). steps w i s) e
 
 pub returns : goal.returns
-returns c =
+returns c s p =
     let x = c.args in
     let n = x.n in
     let w = x.w.now in

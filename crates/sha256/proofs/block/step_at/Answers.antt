@@ -11,4 +11,4 @@ unfolding steps
 steps_more w k n x v y e p q = q ∙ rw (add-one, ← p, e)
 
 pub returns : goal.returns
-returns c = steps_more c.args.w.now c.args.k.now c.args.n s (variables c.args.x) _ c.requires.0 p c.step.ensures
+returns c s p = steps_more c.args.w.now c.args.k.now c.args.n s (variables c.args.x) _ c.requires.0 p c.step.ensures

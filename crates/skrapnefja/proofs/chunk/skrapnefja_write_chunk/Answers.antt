@@ -7,12 +7,12 @@ use Rattle.skrapnefja.proofs.Joined.{joined, lent_row_lem}
 use Rattle.skrapnefja.proofs.chunk.skrapnefja_write_chunk.Goals as goal
 
 pub returns-then-row-ne0 : goal.returns-then-row-ne0
-returns-then-row-ne0 c = let x = c.args in lent_row_lem x.vault.now _ _ x.written.now c.lent_row-row.ensures c.if-row-ne0.true
+returns-then-row-ne0 c reserved = let x = c.args in lent_row_lem x.vault.now _ _ x.written.now c.lent_row-row.ensures c.if-row-ne0.true
 
 pub vault_in-requires : goal.vault_in-requires
 vault_in-requires c = lent-size _ (sym c.lent_row-row.ensures ∙ c.if-row-ne0.false)
 
 pub returns : goal.returns
-returns c =
+returns c reserved =
     let x = c.args in
     joined x.written.now (c.write_chunk.ensures reserved ∙ lent_under _ _ _ c.lent_row-row.ensures c.if-row-ne0.false c.vault_in.ensures) c.end.ensures

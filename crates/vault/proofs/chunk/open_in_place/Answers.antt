@@ -15,9 +15,7 @@ pub open_in_place-requires : goal.open_in_place-requires
 open_in_place-requires c = let k = c.in-SivGcm.is in record { t_value = (c.requires.t_value.0, c.requires.t_value.1, tagged_gcm (cipher 14 c.args.w.now) c.args.chunk.now k c.requires.t_value.2); in_bounds = omega (arith, ap (λ (y : Combo). (sizes_of y).overhead) k, c.requires.combo_in_bounds) }
 
 pub open_in_place-requires-in-SivCtrmac : goal.open_in_place-requires-in-SivCtrmac
-open_in_place-requires-in-SivCtrmac c =
-    let k = c.in-SivCtrmac.is in
-    ((c.requires.t_value.0, c.requires.t_value.1, tagged_ctrmac (cipher 14 c.args.w.now) c.args.chunk.now k c.requires.t_value.2), omega (arith, ap (λ (y : Combo). (sizes_of y).overhead) k, c.requires.combo_in_bounds))
+open_in_place-requires-in-SivCtrmac c = let k = c.in-SivCtrmac.is in record { t_value = (c.requires.t_value.0, c.requires.t_value.1, tagged_ctrmac (cipher 14 c.args.w.now) c.args.chunk.now k c.requires.t_value.2); in_bounds = omega (arith, ap (λ (y : Combo). (sizes_of y).overhead) k, c.requires.combo_in_bounds) }
 
 pub returns-in-SivGcm : goal.returns-in-SivGcm
 returns-in-SivGcm c =

@@ -18,8 +18,7 @@ seal_chunk-requires c =
 pub seal_chunk-requires-in-SivCtrmac : goal.seal_chunk-requires-in-SivCtrmac
 seal_chunk-requires-in-SivCtrmac c =
     let n = ap (λ (x : Combo). (sizes_of x).nonce) c.in-SivCtrmac.is in
-    let o = ap (λ (x : Combo). length c.args.cleartext.now + (sizes_of x).overhead) c.in-SivCtrmac.is in
-    ((search rules, search rules), (c.requires.header_nonce_len.1 ∙ n, c.requires.header_nonce_len.3 ∙ o))
+    let o = ap (λ (x : Combo). length c.args.cleartext.now + (sizes_of x).overhead) c.in-SivCtrmac.is in record { t_value = (search rules, search rules); nonce_len = (c.requires.header_nonce_len.1 ∙ n, c.requires.header_nonce_len.3 ∙ o) }
 
 pub returns-in-SivGcm : goal.returns-in-SivGcm
 returns-in-SivGcm c =

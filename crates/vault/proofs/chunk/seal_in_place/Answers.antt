@@ -18,8 +18,7 @@ pub seal_chunk_in_place-requires-in-SivCtrmac : goal.seal_chunk_in_place-require
 seal_chunk_in_place-requires-in-SivCtrmac c =
     let k = c.in-SivCtrmac.is in
     let n = ap (λ (x : Combo). (sizes_of x).nonce) k in
-    let o = ap (λ (x : Combo). (sizes_of x).overhead) k in
-    ((search rules, search rules), (omega (arith, n, c.requires.header_nonce_len), omega (arith, o, c.requires.header_nonce_len)))
+    let o = ap (λ (x : Combo). (sizes_of x).overhead) k in record { t_value = (search rules, search rules); nonce_len = (omega (arith, n, c.requires.header_nonce_len), omega (arith, o, c.requires.header_nonce_len)) }
 
 pub returns-in-SivGcm : goal.returns-in-SivGcm
 returns-in-SivGcm c =

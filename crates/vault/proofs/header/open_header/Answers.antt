@@ -12,7 +12,7 @@ pub open_header-requires : goal.open_header-requires
 open_header-requires c = record { t_value = c.requires.t_value; enc_len = (c.requires.enc_len.0, c.requires.enc_len.1 ∙ ap (λ (k : Combo). (sizes_of k).header) c.in-SivGcm.is, c.requires.enc_len.2) }
 
 pub open_header-requires-in-SivCtrmac : goal.open_header-requires-in-SivCtrmac
-open_header-requires-in-SivCtrmac c = (c.requires.t_value, (c.requires.enc_len.0, c.requires.enc_len.1 ∙ ap (λ (k : Combo). (sizes_of k).header) c.in-SivCtrmac.is, c.requires.enc_len.2))
+open_header-requires-in-SivCtrmac c = record { t_value = c.requires.t_value; enc_len = (c.requires.enc_len.0, c.requires.enc_len.1 ∙ ap (λ (k : Combo). (sizes_of k).header) c.in-SivCtrmac.is, c.requires.enc_len.2) }
 
 pub returns-in-SivGcm : goal.returns-in-SivGcm
 returns-in-SivGcm c =

@@ -11,9 +11,7 @@ pub seal_header-requires : goal.seal_header-requires
 seal_header-requires c = let e = c.in-SivGcm.is in record { t_value = c.requires.t_value; enc_len = (c.requires.enc_len.0, c.requires.enc_len.1 ∙ ap (λ (k : Combo). (sizes_of k).nonce) e, c.requires.enc_len.2, c.requires.enc_len.3 ∙ ap (λ (k : Combo). (sizes_of k).header) e) }
 
 pub seal_header-requires-in-SivCtrmac : goal.seal_header-requires-in-SivCtrmac
-seal_header-requires-in-SivCtrmac c =
-    let e = c.in-SivCtrmac.is in
-    (c.requires.t_value, (c.requires.enc_len.0, c.requires.enc_len.1 ∙ ap (λ (k : Combo). (sizes_of k).nonce) e, c.requires.enc_len.2, c.requires.enc_len.3 ∙ ap (λ (k : Combo). (sizes_of k).header) e))
+seal_header-requires-in-SivCtrmac c = let e = c.in-SivCtrmac.is in record { t_value = c.requires.t_value; enc_len = (c.requires.enc_len.0, c.requires.enc_len.1 ∙ ap (λ (k : Combo). (sizes_of k).nonce) e, c.requires.enc_len.2, c.requires.enc_len.3 ∙ ap (λ (k : Combo). (sizes_of k).header) e) }
 
 pub returns-in-SivGcm : goal.returns-in-SivGcm
 returns-in-SivGcm c =
