@@ -159,7 +159,7 @@ module _ (C : Codec) (𝓛 : ChunkLaws C) where
           let low = leb-true (z.overhead + 1) (length c) sized.0 in
           let high = leb-true (length c) (stored z) sized.1 in
           let fit = 𝓛.nonce-size in
-          let l = 𝓛.Plain-size h i c in (
+          let l = 𝓛.plain_size h i c in (
             take z.nonce c,
             plain h i c,
             record {

@@ -36,8 +36,7 @@ slice_bounds-enc-end c = sym (length-take-le 32 c.args.input.now (omega (arith, 
 pub returns : goal.returns
 unfolding check_vault threshold_right
 returns c =
-    let under : →
-    let x = c.args in
+    let under : let x = c.args in
     c.make_vault-made.result.vault ≡ vault_with (take 32 x.input.now) (take 32 (drop 32 x.input.now)) SivGcm 220 = let l = c.args.input.now in
     let h = c.if-input-lt64.false in
     let e = length-take-le 32 l (omega (arith, h)) in

@@ -42,8 +42,7 @@ product_fits w k a b = omega (arith, mul_comm w k, mul-le-mul_left {m = w} {n = 
 
 pub overflow_mul-sizes_of : goal.overflow_mul-sizes_of
 overflow_mul-sizes_of c =
-    let asked : →
-    let x = c.args in
+    let asked : let x = c.args in
     c.sizes_of.result.nonce * c.covering-k.result ≡ (sizes_of x.v.combo).nonce * covering x.from (length x.new.now) = ap₂ (λ (z : Sizes) (k : ℕ). z.nonce * k) c.sizes_of.ensures c.covering-k.ensures in
     let x = c.args in
     let h : length x.new.now < 2 ^ 63 = search rules in
@@ -53,8 +52,7 @@ pub returns-then-nonces-sizes_of : goal.returns-then-nonces-sizes_of
 returns-then-nonces-sizes_of c =
     let keys : (length c.args.v.enc ≡ 32) × (length c.args.v.mac ≡ 32) = (search rules, search rules) in
     let keyed : master_keys_right c.args.v.enc c.args.v.mac ≡ true = let v = c.args.v in (keys_exactly v.enc v.mac).1 (keys) in
-    let asked : →
-    let x = c.args in
+    let asked : let x = c.args in
     c.sizes_of.result.nonce * c.covering-k.result ≡ (sizes_of x.v.combo).nonce * covering x.from (length x.new.now) = ap₂ (λ (z : Sizes) (k : ℕ). z.nonce * k) c.sizes_of.ensures c.covering-k.ensures in
     let x = c.args in
     refuses x.v x.file.now x.from x.new.now x.nonces.now 1 (row_1 _ _ _ _ _ _ (keyed) (λ e. c.if-nonces-sizes_of.true (e ∙ sym (asked))))
@@ -63,11 +61,9 @@ pub returns-then-not-right_length : goal.returns-then-not-right_length
 returns-then-not-right_length c =
     let keys : (length c.args.v.enc ≡ 32) × (length c.args.v.mac ≡ 32) = (search rules, search rules) in
     let keyed : master_keys_right c.args.v.enc c.args.v.mac ≡ true = let v = c.args.v in (keys_exactly v.enc v.mac).1 (keys) in
-    let asked : →
-    let x = c.args in
+    let asked : let x = c.args in
     c.sizes_of.result.nonce * c.covering-k.result ≡ (sizes_of x.v.combo).nonce * covering x.from (length x.new.now) = ap₂ (λ (z : Sizes) (k : ℕ). z.nonce * k) c.sizes_of.ensures c.covering-k.ensures in
-    let counted : →
-    let x = c.args in
+    let counted : let x = c.args in
     length x.nonces.now ≡ (sizes_of x.v.combo).nonce * covering x.from (length x.new.now) = c.if-nonces-sizes_of.false ∙ asked in
     let x = c.args in
     refuses x.v x.file.now x.from x.new.now x.nonces.now 4
@@ -77,14 +73,11 @@ pub returns-then-outside : goal.returns-then-outside
 returns-then-outside c =
     let keys : (length c.args.v.enc ≡ 32) × (length c.args.v.mac ≡ 32) = (search rules, search rules) in
     let keyed : master_keys_right c.args.v.enc c.args.v.mac ≡ true = let v = c.args.v in (keys_exactly v.enc v.mac).1 (keys) in
-    let asked : →
-    let x = c.args in
+    let asked : let x = c.args in
     c.sizes_of.result.nonce * c.covering-k.result ≡ (sizes_of x.v.combo).nonce * covering x.from (length x.new.now) = ap₂ (λ (z : Sizes) (k : ℕ). z.nonce * k) c.sizes_of.ensures c.covering-k.ensures in
-    let counted : →
-    let x = c.args in
+    let counted : let x = c.args in
     length x.nonces.now ≡ (sizes_of x.v.combo).nonce * covering x.from (length x.new.now) = c.if-nonces-sizes_of.false ∙ asked in
-    let sized : →
-    let x = c.args in
+    let sized : let x = c.args in
     right_length (sizes_of x.v.combo) (length x.file.now) ≡ true = sym c.right_length.ensures ∙ not-false c.right_length.result c.if-not-right_length.false-raw in
     let x = c.args in
     let n = c.clear_length-n in
@@ -94,14 +87,11 @@ returns-then-outside c =
 
 pub clash-requires : goal.clash-requires
 clash-requires c =
-    let asked : →
-    let x = c.args in
+    let asked : let x = c.args in
     c.sizes_of.result.nonce * c.covering-k.result ≡ (sizes_of x.v.combo).nonce * covering x.from (length x.new.now) = ap₂ (λ (z : Sizes) (k : ℕ). z.nonce * k) c.sizes_of.ensures c.covering-k.ensures in
-    let counted : →
-    let x = c.args in
+    let counted : let x = c.args in
     length x.nonces.now ≡ (sizes_of x.v.combo).nonce * covering x.from (length x.new.now) = c.if-nonces-sizes_of.false ∙ asked in
-    let sized : →
-    let x = c.args in
+    let sized : let x = c.args in
     right_length (sizes_of x.v.combo) (length x.file.now) ≡ true = sym c.right_length.ensures ∙ not-false c.right_length.result c.if-not-right_length.false-raw in
     let x = c.args in
     let z = sizes_of x.v.combo in
@@ -112,23 +102,18 @@ unfolding clashes
 returns-then-clash c =
     let keys : (length c.args.v.enc ≡ 32) × (length c.args.v.mac ≡ 32) = (search rules, search rules) in
     let keyed : master_keys_right c.args.v.enc c.args.v.mac ≡ true = let v = c.args.v in (keys_exactly v.enc v.mac).1 (keys) in
-    let asked : →
-    let x = c.args in
+    let asked : let x = c.args in
     c.sizes_of.result.nonce * c.covering-k.result ≡ (sizes_of x.v.combo).nonce * covering x.from (length x.new.now) = ap₂ (λ (z : Sizes) (k : ℕ). z.nonce * k) c.sizes_of.ensures c.covering-k.ensures in
-    let counted : →
-    let x = c.args in
+    let counted : let x = c.args in
     length x.nonces.now ≡ (sizes_of x.v.combo).nonce * covering x.from (length x.new.now) = c.if-nonces-sizes_of.false ∙ asked in
-    let sized : →
-    let x = c.args in
+    let sized : let x = c.args in
     right_length (sizes_of x.v.combo) (length x.file.now) ≡ true = sym c.right_length.ensures ∙ not-false c.right_length.result c.if-not-right_length.false-raw in
-    let within : →
-    let x = c.args in
+    let within : let x = c.args in
     x.from + length x.new.now ≤ clear_length (sizes_of x.v.combo) (length x.file.now) = let x = c.args in
     let n = c.clear_length-n in
     let h = ltb-false n.result (x.from + length x.new.now) (sym c.outside.ensures ∙ c.if-outside.false) in
     omega (arith, n.ensures, h) in
-    let clashing : →
-    let x = c.args in
+    let clashing : let x = c.args in
     clashes (sizes_of x.v.combo) x.file.now x.from (length x.new.now) x.nonces.now ≡ c.clash.result = let x = c.args in
     let z = sizes_of x.v.combo in
     sym (c.clash.ensures
@@ -151,23 +136,18 @@ pub mend_inside-requires : goal.mend_inside-requires
 unfolding clashes
 mend_inside-requires c =
     let keys : (length c.args.v.enc ≡ 32) × (length c.args.v.mac ≡ 32) = (search rules, search rules) in
-    let asked : →
-    let x = c.args in
+    let asked : let x = c.args in
     c.sizes_of.result.nonce * c.covering-k.result ≡ (sizes_of x.v.combo).nonce * covering x.from (length x.new.now) = ap₂ (λ (z : Sizes) (k : ℕ). z.nonce * k) c.sizes_of.ensures c.covering-k.ensures in
-    let counted : →
-    let x = c.args in
+    let counted : let x = c.args in
     length x.nonces.now ≡ (sizes_of x.v.combo).nonce * covering x.from (length x.new.now) = c.if-nonces-sizes_of.false ∙ asked in
-    let sized : →
-    let x = c.args in
+    let sized : let x = c.args in
     right_length (sizes_of x.v.combo) (length x.file.now) ≡ true = sym c.right_length.ensures ∙ not-false c.right_length.result c.if-not-right_length.false-raw in
-    let within : →
-    let x = c.args in
+    let within : let x = c.args in
     x.from + length x.new.now ≤ clear_length (sizes_of x.v.combo) (length x.file.now) = let x = c.args in
     let n = c.clear_length-n in
     let h = ltb-false n.result (x.from + length x.new.now) (sym c.outside.ensures ∙ c.if-outside.false) in
     omega (arith, n.ensures, h) in
-    let clashing : →
-    let x = c.args in
+    let clashing : let x = c.args in
     clashes (sizes_of x.v.combo) x.file.now x.from (length x.new.now) x.nonces.now ≡ c.clash.result = let x = c.args in
     let z = sizes_of x.v.combo in
     sym (c.clash.ensures

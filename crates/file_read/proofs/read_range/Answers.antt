@@ -49,8 +49,7 @@ pub returns-then-out-count : goal.returns-then-out-count
 returns-then-out-count c =
     let keyed : master_keys_right c.args.v.enc c.args.v.mac ≡ true = let v = c.args.v in (keys_exactly v.enc v.mac).1 (search rules, search rules) in
     let sized : let x = c.args in right_length (sizes_of x.v.combo) (length x.file.now) ≡ true = sym c.right_length.ensures ∙ not-false c.right_length.result c.if-not-right_length.false-raw in
-    let within : →
-    let x = c.args in
+    let within : let x = c.args in
     x.from + x.count ≤ clear_length (sizes_of x.v.combo) (length x.file.now) = let x = c.args in
     let n = c.clear_length-n in
     let h = ltb-false n.result (x.from + x.count) (sym c.outside.ensures ∙ c.if-outside.false) in
@@ -62,8 +61,7 @@ returns-then-out-count c =
 pub read_inside-requires : goal.read_inside-requires
 read_inside-requires c =
     let sized : let x = c.args in right_length (sizes_of x.v.combo) (length x.file.now) ≡ true = sym c.right_length.ensures ∙ not-false c.right_length.result c.if-not-right_length.false-raw in
-    let within : →
-    let x = c.args in
+    let within : let x = c.args in
     x.from + x.count ≤ clear_length (sizes_of x.v.combo) (length x.file.now) = let x = c.args in
     let n = c.clear_length-n in
     let h = ltb-false n.result (x.from + x.count) (sym c.outside.ensures ∙ c.if-outside.false) in

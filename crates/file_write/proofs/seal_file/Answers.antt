@@ -18,16 +18,14 @@ use Rattle.file_write.proofs.seal_file.Goals as goal
 
 pub slice_bounds-seal_header-end : goal.slice_bounds-seal_header-end
 slice_bounds-seal_header-end c =
-    let headed : →
-    let x = c.args in
+    let headed : let x = c.args in
     (c.sizes_of-header.result.header ≡ (sizes_of x.combo).header) × (c.sizes_of-header.result.header ≤ length x.out.now) = let e = ap (λ (z : Sizes). z.header) c.sizes_of-header.ensures in
     (e, omega (arith, e, c.requires.nonces_len.1)) in
     omega (arith, (headed).1)
 
 pub slice_bounds-seal_header-end-2 : goal.slice_bounds-seal_header-end-2
 slice_bounds-seal_header-end-2 c =
-    let headed : →
-    let x = c.args in
+    let headed : let x = c.args in
     (c.sizes_of-header.result.header ≡ (sizes_of x.combo).header) × (c.sizes_of-header.result.header ≤ length x.out.now) = let e = ap (λ (z : Sizes). z.header) c.sizes_of-header.ensures in
     (e, omega (arith, e, c.requires.nonces_len.1)) in
     let x = c.args in
@@ -35,32 +33,28 @@ slice_bounds-seal_header-end-2 c =
 
 pub seal_header-requires : goal.seal_header-requires
 seal_header-requires c =
-    let headed : →
-    let x = c.args in
+    let headed : let x = c.args in
     (c.sizes_of-header.result.header ≡ (sizes_of x.combo).header) × (c.sizes_of-header.result.header ≤ length x.out.now) = let e = ap (λ (z : Sizes). z.header) c.sizes_of-header.ensures in
     (e, omega (arith, e, c.requires.nonces_len.1)) in
     record { t_value = c.table-t.ensures; enc_len = (c.requires.enc_len.0, c.requires.enc_len.1, c.requires.enc_len.2, length-take-le c.sizes_of-header.result.header c.args.out.now (headed).1 ∙ (headed).0) }
 
 pub slice_bounds-write_chunks-count : goal.slice_bounds-write_chunks-count
 slice_bounds-write_chunks-count c =
-    let headed : →
-    let x = c.args in
+    let headed : let x = c.args in
     (c.sizes_of-header.result.header ≡ (sizes_of x.combo).header) × (c.sizes_of-header.result.header ≤ length x.out.now) = let e = ap (λ (z : Sizes). z.header) c.sizes_of-header.ensures in
     (e, omega (arith, e, c.requires.nonces_len.1)) in
     omega (arith, (headed).1, c.out-1.given.1)
 
 pub slice_bounds-write_chunks-start : goal.slice_bounds-write_chunks-start
 slice_bounds-write_chunks-start c =
-    let headed : →
-    let x = c.args in
+    let headed : let x = c.args in
     (c.sizes_of-header.result.header ≡ (sizes_of x.combo).header) × (c.sizes_of-header.result.header ≤ length x.out.now) = let e = ap (λ (z : Sizes). z.header) c.sizes_of-header.ensures in
     (e, omega (arith, e, c.requires.nonces_len.1)) in
     omega (arith, (headed).1, c.out-1.given.1)
 
 pub write_chunks-requires : goal.write_chunks-requires
 write_chunks-requires c =
-    let headed : →
-    let x = c.args in
+    let headed : let x = c.args in
     (c.sizes_of-header.result.header ≡ (sizes_of x.combo).header) × (c.sizes_of-header.result.header ≤ length x.out.now) = let e = ap (λ (z : Sizes). z.header) c.sizes_of-header.ensures in
     (e, omega (arith, e, c.requires.nonces_len.1)) in
     let h = c.sizes_of-header.result.header in
@@ -71,8 +65,7 @@ write_chunks-requires c =
 pub returns : goal.returns
 unfolding file_of
 returns c =
-    let headed : →
-    let x = c.args in
+    let headed : let x = c.args in
     (c.sizes_of-header.result.header ≡ (sizes_of x.combo).header) × (c.sizes_of-header.result.header ≤ length x.out.now) = let e = ap (λ (z : Sizes). z.header) c.sizes_of-header.ensures in
     (e, omega (arith, e, c.requires.nonces_len.1)) in
     let x = c.args in
@@ -85,6 +78,6 @@ returns c =
     ∙ ap₂ (λ (a c : List ℕ). a ++ c) head.ensures
     (c.write_chunks.ensures
     ∙ ap
-    (λ (f : List ℕ → List ℕ). chunks_from (sizes_of x.combo) (sealed_under x.combo f x.mac.now x.header-nonce.now) 0 (chunks (length x.cleartext.now)) x.nonces.now x.cleartext.now)
+    (λ (f : List ℕ → List ℕ). chunks_from (sizes_of x.combo) (sealed_under x.combo f x.mac.now x.header_nonce.now) 0 (chunks (length x.cleartext.now)) x.nonces.now x.cleartext.now)
     e)
-    ∙ ap (λ (C : Codec). file_of C (own_choice x.header-nonce.now x.key.now x.nonces.now x.cleartext.now)) (codec_by_lem x.combo x.enc.now x.mac.now)
+    ∙ ap (λ (C : Codec). file_of C (own_choice x.header_nonce.now x.key.now x.nonces.now x.cleartext.now)) (codec_by_lem x.combo x.enc.now x.mac.now)

@@ -67,10 +67,9 @@ repeats-requires c =
     ((keys_exactly x.enc.now x.mac.now).1 c.requires) (sym c.sizes_of-w.ensures)
     ∙ sym c.sizes_right.ensures in
     let sizes : sizes_right (codec c) (chosen c) ≡ true = tested ∙ not-false _ c.if-not-sizes_right.false-raw in
-    let facts : →
-    let x = c.args in
+    let facts : let x = c.args in
     let z = sizes_of x.combo in
-    (length x.header-nonce.now ≡ z.nonce) × (length x.key.now ≡ 32) × (length x.nonces.now ≡ z.nonce * chunks (length x.cleartext.now)) = sizes_facts (codec c) (chosen c) (sizes) in
+    (length x.header_nonce.now ≡ z.nonce) × (length x.key.now ≡ 32) × (length x.nonces.now ≡ z.nonce * chunks (length x.cleartext.now)) = sizes_facts (codec c) (chosen c) (sizes) in
     let l = (facts).2 in
     omega (arith, l ∙ ap₂ (λ (z : Sizes) (m : ℕ). z.nonce * m) (sym c.sizes_of-w.ensures) (sym c.chunks.ensures))
 
@@ -82,8 +81,7 @@ returns-then-repeats c =
     ((keys_exactly x.enc.now x.mac.now).1 c.requires) (sym c.sizes_of-w.ensures)
     ∙ sym c.sizes_right.ensures in
     let sizes : sizes_right (codec c) (chosen c) ≡ true = tested ∙ not-false _ c.if-not-sizes_right.false-raw in
-    let again : →
-    let x = c.args in
+    let again : let x = c.args in
     repeats (sizes_of x.combo).nonce (chunks (length x.cleartext.now)) x.nonces.now ≡ c.repeats.result = let x = c.args in
     ap₂ (λ (z : Sizes) (m : ℕ). repeats z.nonce m x.nonces.now) (sym c.sizes_of-w.ensures) (sym c.chunks.ensures) ∙ sym c.repeats.ensures in
     let e = c.file_length-size.ensures in
@@ -101,10 +99,9 @@ seal_file-requires c =
     ((keys_exactly x.enc.now x.mac.now).1 c.requires) (sym c.sizes_of-w.ensures)
     ∙ sym c.sizes_right.ensures in
     let sizes : sizes_right (codec c) (chosen c) ≡ true = tested ∙ not-false _ c.if-not-sizes_right.false-raw in
-    let facts : →
-    let x = c.args in
+    let facts : let x = c.args in
     let z = sizes_of x.combo in
-    (length x.header-nonce.now ≡ z.nonce) × (length x.key.now ≡ 32) × (length x.nonces.now ≡ z.nonce * chunks (length x.cleartext.now)) = sizes_facts (codec c) (chosen c) (sizes) in
+    (length x.header_nonce.now ≡ z.nonce) × (length x.key.now ≡ 32) × (length x.nonces.now ≡ z.nonce * chunks (length x.cleartext.now)) = sizes_facts (codec c) (chosen c) (sizes) in
     let f = facts in record { enc_len = (c.requires.0, f.0, f.1); nonces_len = (f.2, length-take-le _ c.args.out.now c.if-out-size.false ∙ c.file_length-size.ensures) }
 
 pub returns : goal.returns
@@ -115,8 +112,7 @@ returns c =
     ((keys_exactly x.enc.now x.mac.now).1 c.requires) (sym c.sizes_of-w.ensures)
     ∙ sym c.sizes_right.ensures in
     let sizes : sizes_right (codec c) (chosen c) ≡ true = tested ∙ not-false _ c.if-not-sizes_right.false-raw in
-    let again : →
-    let x = c.args in
+    let again : let x = c.args in
     repeats (sizes_of x.combo).nonce (chunks (length x.cleartext.now)) x.nonces.now ≡ c.repeats.result = let x = c.args in
     ap₂ (λ (z : Sizes) (m : ℕ). repeats z.nonce m x.nonces.now) (sym c.sizes_of-w.ensures) (sym c.chunks.ensures) ∙ sym c.repeats.ensures in
     let out = c.args.out.now in

@@ -15,7 +15,7 @@ pub returns-then-not-checks : goal.returns-then-not-checks
 returns-then-not-checks c =
     let u = c.unwrapped-x in
     let w = c.expand in
-    let x = c.args in record { value = sym (not-true _ c.if-not-checks.true-raw) ∙ c.checks.ensures ∙ good_under_lem x.kek.now w.new.w w.ensures x.wrapped-key.now (bytes u.result) u.ensures; out_after = refl }
+    let x = c.args in record { value = sym (not-true _ c.if-not-checks.true-raw) ∙ c.checks.ensures ∙ good_under_lem x.kek.now w.new.w w.ensures x.wrapped_key.now (bytes u.result) u.ensures; out_after = refl }
 
 pub store_key-requires : goal.store_key-requires
 store_key-requires c = record { out_len = search rules; x_value = same_eq _ _ (sym c.checks.ensures ∙ not-false _ c.if-not-checks.false-raw) }
@@ -24,4 +24,4 @@ pub returns : goal.returns
 returns c =
     let u = c.unwrapped-x in
     let w = c.expand in
-    let x = c.args in record { value = sym (not-false _ c.if-not-checks.false-raw) ∙ c.checks.ensures ∙ good_under_lem x.kek.now w.new.w w.ensures x.wrapped-key.now (bytes u.result) u.ensures; out_after = c.store_key.ensures ∙ plain_under_lem x.kek.now w.new.w w.ensures x.wrapped-key.now (bytes u.result) u.ensures }
+    let x = c.args in record { value = sym (not-false _ c.if-not-checks.false-raw) ∙ c.checks.ensures ∙ good_under_lem x.kek.now w.new.w w.ensures x.wrapped_key.now (bytes u.result) u.ensures; out_after = c.store_key.ensures ∙ plain_under_lem x.kek.now w.new.w w.ensures x.wrapped_key.now (bytes u.result) u.ensures }

@@ -21,23 +21,22 @@ pub returns-then-kek-ne32 : goal.returns-then-kek-ne32
 unfolding unwrap_key_rows
 returns-then-kek-ne32 c =
     let x = c.args in
-    sym (((key_ends.1 x.kek.now x.wrapped-key.now x.out.now).0 0 (lit≤ tt)).1 (ap not (ne_eqb _ _ c.if-kek-ne32.true)))
+    sym (((key_ends.1 x.kek.now x.wrapped_key.now x.out.now).0 0 (lit≤ tt)).1 (ap not (ne_eqb _ _ c.if-kek-ne32.true)))
 
 pub returns-then-wrapped_key-ne40 : goal.returns-then-wrapped_key-ne40
 unfolding unwrap_key_rows
 returns-then-wrapped_key-ne40 c =
     let x = c.args in
-    sym (((key_ends.1 x.kek.now x.wrapped-key.now x.out.now).0 1 (lit≤ tt)).1 (ap not (eq-eqb _ _ c.if-kek-ne32.false), ap not (ne_eqb _ _ c.if-wrapped_key-ne40.true)))
+    sym (((key_ends.1 x.kek.now x.wrapped_key.now x.out.now).0 1 (lit≤ tt)).1 (ap not (eq-eqb _ _ c.if-kek-ne32.false), ap not (ne_eqb _ _ c.if-wrapped_key-ne40.true)))
 
 pub returns-then-out-lt32 : goal.returns-then-out-lt32
 unfolding unwrap_key_rows
 returns-then-out-lt32 c =
-    let sizes : →
-    let x = c.args in
-    (not (eqb (length x.kek.now) key_size) ≡ false) × (not (eqb (length x.wrapped-key.now) wrapped_size) ≡ false) = (ap not (eq-eqb _ _ c.if-kek-ne32.false), ap not (eq-eqb _ _ c.if-wrapped_key-ne40.false)) in
+    let sizes : let x = c.args in
+    (not (eqb (length x.kek.now) key_size) ≡ false) × (not (eqb (length x.wrapped_key.now) wrapped_size) ≡ false) = (ap not (eq-eqb _ _ c.if-kek-ne32.false), ap not (eq-eqb _ _ c.if-wrapped_key-ne40.false)) in
     let x = c.args in
     let k = sizes in
-    sym (((key_ends.1 x.kek.now x.wrapped-key.now x.out.now).0 2 (lit≤ tt)).1 (k.0, (k.1, lt-ltb _ _ c.if-out-lt32.true)))
+    sym (((key_ends.1 x.kek.now x.wrapped_key.now x.out.now).0 2 (lit≤ tt)).1 (k.0, (k.1, lt-ltb _ _ c.if-out-lt32.true)))
 
 pub slice_bounds-unwrap_into-end-2 : goal.slice_bounds-unwrap_into-end-2
 slice_bounds-unwrap_into-end-2 c =
@@ -52,30 +51,28 @@ unwrap_into-requires c =
 pub returns-then-not-unwrap_into : goal.returns-then-not-unwrap_into
 unfolding unwrap_key_rows
 returns-then-not-unwrap_into c =
-    let sizes : →
-    let x = c.args in
-    (not (eqb (length x.kek.now) key_size) ≡ false) × (not (eqb (length x.wrapped-key.now) wrapped_size) ≡ false) = (ap not (eq-eqb _ _ c.if-kek-ne32.false), ap not (eq-eqb _ _ c.if-wrapped_key-ne40.false)) in
+    let sizes : let x = c.args in
+    (not (eqb (length x.kek.now) key_size) ≡ false) × (not (eqb (length x.wrapped_key.now) wrapped_size) ≡ false) = (ap not (eq-eqb _ _ c.if-kek-ne32.false), ap not (eq-eqb _ _ c.if-wrapped_key-ne40.false)) in
     let s = c.unwrap_into in
     let x = c.args in
     let d = x.out.now in
     let z = sizes in
     let r = not-true _ c.if-not-unwrap_into.true-raw in
-    let e = s.ensures.out_after ∙ ap (λ (b : Bool). cond b (plain (inverse_aes 8 x.kek.now) x.wrapped-key.now) (take 32 d)) r in
+    let e = s.ensures.out_after ∙ ap (λ (b : Bool). cond b (plain (inverse_aes 8 x.kek.now) x.wrapped_key.now) (take 32 d)) r in
     ap (ended (refused 20)) (front_kept s.new.out d 32 e)
-    ∙ sym (((key_ends.1 x.kek.now x.wrapped-key.now d).0 3 (lit≤ tt)).1 (z.0, (z.1, (le-ltb _ _ c.if-out-lt32.false, ap not (sym s.ensures.value ∙ r)))))
+    ∙ sym (((key_ends.1 x.kek.now x.wrapped_key.now d).0 3 (lit≤ tt)).1 (z.0, (z.1, (le-ltb _ _ c.if-out-lt32.false, ap not (sym s.ensures.value ∙ r)))))
 
 pub returns : goal.returns
 unfolding unwrap_key_rows
 returns c =
-    let sizes : →
-    let x = c.args in
-    (not (eqb (length x.kek.now) key_size) ≡ false) × (not (eqb (length x.wrapped-key.now) wrapped_size) ≡ false) = (ap not (eq-eqb _ _ c.if-kek-ne32.false), ap not (eq-eqb _ _ c.if-wrapped_key-ne40.false)) in
+    let sizes : let x = c.args in
+    (not (eqb (length x.kek.now) key_size) ≡ false) × (not (eqb (length x.wrapped_key.now) wrapped_size) ≡ false) = (ap not (eq-eqb _ _ c.if-kek-ne32.false), ap not (eq-eqb _ _ c.if-wrapped_key-ne40.false)) in
     let s = c.unwrap_into in
     let x = c.args in
     let d = x.out.now in
-    let p = plain (inverse_aes 8 x.kek.now) x.wrapped-key.now in
+    let p = plain (inverse_aes 8 x.kek.now) x.wrapped_key.now in
     let z = sizes in
     let r = not-false _ c.if-not-unwrap_into.false-raw in
     let e = s.ensures.out_after ∙ ap (λ (b : Bool). cond b p (take 32 d)) r in
-    ap (ended (done (32 ∷ []))) (front_filled s.new.out d 32 p s.auto.1.1.0 e)
-    ∙ sym ((key_ends.1 x.kek.now x.wrapped-key.now d).1.1 (z.0, (z.1, (le-ltb _ _ c.if-out-lt32.false, (ap not (sym s.ensures.value ∙ r), tt)))))
+    ap (ended (done (32 ∷ []))) (front_filled s.new.out d 32 p s.auto.out e)
+    ∙ sym ((key_ends.1 x.kek.now x.wrapped_key.now d).1.1 (z.0, (z.1, (le-ltb _ _ c.if-out-lt32.false, (ap not (sym s.ensures.value ∙ r), tt)))))

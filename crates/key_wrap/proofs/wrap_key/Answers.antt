@@ -34,8 +34,7 @@ returns-then-key-ne32 c =
 pub returns-then-out-lt40 : goal.returns-then-out-lt40
 unfolding wrap_key_rows
 returns-then-out-lt40 c =
-    let sizes : →
-    let x = c.args in
+    let sizes : let x = c.args in
     not (eqb (length x.kek.now) key_size && eqb (length x.key.now) key_size) ≡ false = ap₂ (λ (a b : Bool). not (a && b)) (eq-eqb _ _ c.if-kek-ne32.false) (eq-eqb _ _ c.if-key-ne32.false) in
     let x = c.args in
     sym (((key_ends.0 x.kek.now x.key.now x.out.now).0 1 (lit≤ tt)).1 (sizes, lt-ltb _ _ c.if-out-lt40.true))
@@ -53,10 +52,9 @@ wrap_into-requires c =
 pub returns : goal.returns
 unfolding wrap_key_rows
 returns c =
-    let sizes : →
-    let x = c.args in
+    let sizes : let x = c.args in
     not (eqb (length x.kek.now) key_size && eqb (length x.key.now) key_size) ≡ false = ap₂ (λ (a b : Bool). not (a && b)) (eq-eqb _ _ c.if-kek-ne32.false) (eq-eqb _ _ c.if-key-ne32.false) in
     let s = c.wrap_into in
     let x = c.args in
-    ap (ended (done (40 ∷ []))) (front_filled s.new.out x.out.now 40 (wrap (aes 8 x.kek.now) x.key.now) s.auto.1.1.0 s.ensures)
+    ap (ended (done (40 ∷ []))) (front_filled s.new.out x.out.now 40 (wrap (aes 8 x.kek.now) x.key.now) s.auto.out s.ensures)
     ∙ sym ((key_ends.0 x.kek.now x.key.now x.out.now).1.1 (sizes, (le-ltb _ _ c.if-out-lt40.false, tt)))

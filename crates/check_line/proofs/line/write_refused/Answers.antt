@@ -16,7 +16,7 @@ pub copy_at-requires : goal.copy_at-requires
 unfolding refused_line
 copy_at-requires c =
     let u = c.put_field-a in
-    omega (arith, c.requires, u.ensures.0, u.auto.1.1.0, length-append (refused_text ++ decimal c.args.row) line_end)
+    omega (arith, c.requires, u.ensures.0, u.auto.line, length-append (refused_text ++ decimal c.args.row) line_end)
 
 pub overflow_add-result : goal.overflow_add-result
 unfolding refused_line

@@ -15,14 +15,14 @@ pub put_field-b-requires : goal.put_field-b-requires
 unfolding refused_at_line
 put_field-b-requires c =
     let u = c.put_field-a in
-    omega (arith, c.requires, u.ensures.0, u.auto.1.1.0, length_three (refused_text ++ decimal c.args.row) (at_text ++ decimal c.args.i) line_end)
+    omega (arith, c.requires, u.ensures.0, u.auto.line, length_three (refused_text ++ decimal c.args.row) (at_text ++ decimal c.args.i) line_end)
 
 pub copy_at-requires : goal.copy_at-requires
 unfolding refused_at_line
 copy_at-requires c =
     let u = c.put_field-a in
     let v = c.put_field-b in
-    omega (arith, c.requires, u.ensures.0, u.auto.1.1.0, v.ensures.0, v.auto.1.1.0, length_three (refused_text ++ decimal c.args.row) (at_text ++ decimal c.args.i) line_end)
+    omega (arith, c.requires, u.ensures.0, u.auto.line, v.ensures.0, v.auto.line, length_three (refused_text ++ decimal c.args.row) (at_text ++ decimal c.args.i) line_end)
 
 pub overflow_add-result : goal.overflow_add-result
 unfolding refused_at_line

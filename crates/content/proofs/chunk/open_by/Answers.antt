@@ -50,18 +50,17 @@ unfolding open_chunk_rows
 returns-then-not-head_right c enc reserved =
     let by : (enc reserved : List ℕ) →
     let x = c.args in
-    let h = head_with x.header-nonce.now reserved x.key.now in
+    let h = head_with x.header_nonce.now reserved x.key.now in
     open_chunk (codec (sizes_in c.sizes_of-z.result) x.combo enc x.mac.now) h x.number x.chunk.now x.out.now
     ≡ open_chunk (codec_with x.combo enc x.mac.now) h x.number x.chunk.now x.out.now = λ enc reserved. let x = c.args in
-    let h = head_with x.header-nonce.now reserved x.key.now in
+    let h = head_with x.header_nonce.now reserved x.key.now in
     ap (λ (C : Codec). open_chunk C h x.number x.chunk.now x.out.now)
     (ap (λ (z : Sizes). codec z x.combo enc x.mac.now) c.sizes_of-z.ensures ∙ same x.combo enc x.mac.now) in
-    let tested : →
+    let tested : let x = c.args in
+    head_right (sizes_in c.sizes_of-z.result) (own_head x.header_nonce.now x.key.now) ≡ c.head_right.result = let x = c.args in
+    ap (λ (z : Sizes). head_right z (own_head x.header_nonce.now x.key.now)) c.sizes_of-z.ensures ∙ sym c.head_right.ensures in
     let x = c.args in
-    head_right (sizes_in c.sizes_of-z.result) (own_head x.header-nonce.now x.key.now) ≡ c.head_right.result = let x = c.args in
-    ap (λ (z : Sizes). head_right z (own_head x.header-nonce.now x.key.now)) c.sizes_of-z.ensures ∙ sym c.head_right.ensures in
-    let x = c.args in
-    let h = head_with x.header-nonce.now reserved x.key.now in
+    let h = head_with x.header_nonce.now reserved x.key.now in
     let k = tested ∙ not-true _ c.if-not-head_right.true-raw in
     sym ((((single_ends (codec (sizes_in c.sizes_of-z.result) x.combo enc x.mac.now)).3 h x.number x.chunk.now x.out.now).0 0 (lit≤ tt)).1 (ap not k)) ∙ by enc reserved
 
@@ -80,21 +79,19 @@ unfolding open_chunk_rows
 returns-then-not-within c enc reserved =
     let by : (enc reserved : List ℕ) →
     let x = c.args in
-    let h = head_with x.header-nonce.now reserved x.key.now in
+    let h = head_with x.header_nonce.now reserved x.key.now in
     open_chunk (codec (sizes_in c.sizes_of-z.result) x.combo enc x.mac.now) h x.number x.chunk.now x.out.now
     ≡ open_chunk (codec_with x.combo enc x.mac.now) h x.number x.chunk.now x.out.now = λ enc reserved. let x = c.args in
-    let h = head_with x.header-nonce.now reserved x.key.now in
+    let h = head_with x.header_nonce.now reserved x.key.now in
     ap (λ (C : Codec). open_chunk C h x.number x.chunk.now x.out.now)
     (ap (λ (z : Sizes). codec z x.combo enc x.mac.now) c.sizes_of-z.ensures ∙ same x.combo enc x.mac.now) in
-    let tested : →
+    let tested : let x = c.args in
+    head_right (sizes_in c.sizes_of-z.result) (own_head x.header_nonce.now x.key.now) ≡ c.head_right.result = let x = c.args in
+    ap (λ (z : Sizes). head_right z (own_head x.header_nonce.now x.key.now)) c.sizes_of-z.ensures ∙ sym c.head_right.ensures in
+    let head : let x = c.args in
+    head_right (sizes_in c.sizes_of-z.result) (own_head x.header_nonce.now x.key.now) ≡ true = tested ∙ not-false _ c.if-not-head_right.false-raw in
     let x = c.args in
-    head_right (sizes_in c.sizes_of-z.result) (own_head x.header-nonce.now x.key.now) ≡ c.head_right.result = let x = c.args in
-    ap (λ (z : Sizes). head_right z (own_head x.header-nonce.now x.key.now)) c.sizes_of-z.ensures ∙ sym c.head_right.ensures in
-    let head : →
-    let x = c.args in
-    head_right (sizes_in c.sizes_of-z.result) (own_head x.header-nonce.now x.key.now) ≡ true = tested ∙ not-false _ c.if-not-head_right.false-raw in
-    let x = c.args in
-    let h = head_with x.header-nonce.now reserved x.key.now in
+    let h = head_with x.header_nonce.now reserved x.key.now in
     let w = sym c.within.ensures ∙ not-true _ c.if-not-within.true-raw in
     sym
     ((((single_ends (codec (sizes_in c.sizes_of-z.result) x.combo enc x.mac.now)).3 h x.number x.chunk.now x.out.now).0 1 (lit≤ tt)).1
@@ -103,12 +100,10 @@ returns-then-not-within c enc reserved =
 
 pub overflow_sub-n : goal.overflow_sub-n
 overflow_sub-n c =
-    let sized : →
-    let n = length c.args.chunk.now in
+    let sized : let n = length c.args.chunk.now in
     let o = c.sizes_of-z.result.overhead in
     (leb (o + 1) n && leb n (32768 + o)) ≡ true = sym c.within.ensures ∙ not-false _ c.if-not-within.false-raw in
-    let bounds : →
-    let n = length c.args.chunk.now in
+    let bounds : let n = length c.args.chunk.now in
     let o = c.sizes_of-z.result.overhead in
     (o + 1 ≤ n) × (n ≤ 32768 + o) = within-sizes _ _ _ (sized) in
     omega (arith, (bounds).0)
@@ -118,25 +113,22 @@ unfolding open_chunk_rows
 returns-then-out-n c enc reserved =
     let by : (enc reserved : List ℕ) →
     let x = c.args in
-    let h = head_with x.header-nonce.now reserved x.key.now in
+    let h = head_with x.header_nonce.now reserved x.key.now in
     open_chunk (codec (sizes_in c.sizes_of-z.result) x.combo enc x.mac.now) h x.number x.chunk.now x.out.now
     ≡ open_chunk (codec_with x.combo enc x.mac.now) h x.number x.chunk.now x.out.now = λ enc reserved. let x = c.args in
-    let h = head_with x.header-nonce.now reserved x.key.now in
+    let h = head_with x.header_nonce.now reserved x.key.now in
     ap (λ (C : Codec). open_chunk C h x.number x.chunk.now x.out.now)
     (ap (λ (z : Sizes). codec z x.combo enc x.mac.now) c.sizes_of-z.ensures ∙ same x.combo enc x.mac.now) in
-    let tested : →
-    let x = c.args in
-    head_right (sizes_in c.sizes_of-z.result) (own_head x.header-nonce.now x.key.now) ≡ c.head_right.result = let x = c.args in
-    ap (λ (z : Sizes). head_right z (own_head x.header-nonce.now x.key.now)) c.sizes_of-z.ensures ∙ sym c.head_right.ensures in
-    let head : →
-    let x = c.args in
-    head_right (sizes_in c.sizes_of-z.result) (own_head x.header-nonce.now x.key.now) ≡ true = tested ∙ not-false _ c.if-not-head_right.false-raw in
-    let sized : →
-    let n = length c.args.chunk.now in
+    let tested : let x = c.args in
+    head_right (sizes_in c.sizes_of-z.result) (own_head x.header_nonce.now x.key.now) ≡ c.head_right.result = let x = c.args in
+    ap (λ (z : Sizes). head_right z (own_head x.header_nonce.now x.key.now)) c.sizes_of-z.ensures ∙ sym c.head_right.ensures in
+    let head : let x = c.args in
+    head_right (sizes_in c.sizes_of-z.result) (own_head x.header_nonce.now x.key.now) ≡ true = tested ∙ not-false _ c.if-not-head_right.false-raw in
+    let sized : let n = length c.args.chunk.now in
     let o = c.sizes_of-z.result.overhead in
     (leb (o + 1) n && leb n (32768 + o)) ≡ true = sym c.within.ensures ∙ not-false _ c.if-not-within.false-raw in
     let x = c.args in
-    let h = head_with x.header-nonce.now reserved x.key.now in
+    let h = head_with x.header_nonce.now reserved x.key.now in
     sym
     ((((single_ends (codec (sizes_in c.sizes_of-z.result) x.combo enc x.mac.now)).3 h x.number x.chunk.now x.out.now).0 2 (lit≤ tt)).1
     (ap not (head), (ap not (sized), lt-ltb _ _ c.if-out-n.true)))
@@ -144,36 +136,30 @@ returns-then-out-n c enc reserved =
 
 pub slice_bounds-to-end-2 : goal.slice_bounds-to-end-2
 slice_bounds-to-end-2 c =
-    let room : →
-    let x = c.args in
+    let room : let x = c.args in
     let n = length x.chunk.now - c.sizes_of-z.result.overhead in
     length (take n x.out.now) ≡ n = length-take-le _ _ c.if-out-n.false in
     sym (room)
 
 pub open_under-requires : goal.open_under-requires
 open_under-requires c =
-    let tested : →
-    let x = c.args in
-    head_right (sizes_in c.sizes_of-z.result) (own_head x.header-nonce.now x.key.now) ≡ c.head_right.result = let x = c.args in
-    ap (λ (z : Sizes). head_right z (own_head x.header-nonce.now x.key.now)) c.sizes_of-z.ensures ∙ sym c.head_right.ensures in
-    let head : →
-    let x = c.args in
-    head_right (sizes_in c.sizes_of-z.result) (own_head x.header-nonce.now x.key.now) ≡ true = tested ∙ not-false _ c.if-not-head_right.false-raw in
-    let sized : →
-    let n = length c.args.chunk.now in
+    let tested : let x = c.args in
+    head_right (sizes_in c.sizes_of-z.result) (own_head x.header_nonce.now x.key.now) ≡ c.head_right.result = let x = c.args in
+    ap (λ (z : Sizes). head_right z (own_head x.header_nonce.now x.key.now)) c.sizes_of-z.ensures ∙ sym c.head_right.ensures in
+    let head : let x = c.args in
+    head_right (sizes_in c.sizes_of-z.result) (own_head x.header_nonce.now x.key.now) ≡ true = tested ∙ not-false _ c.if-not-head_right.false-raw in
+    let sized : let n = length c.args.chunk.now in
     let o = c.sizes_of-z.result.overhead in
     (leb (o + 1) n && leb n (32768 + o)) ≡ true = sym c.within.ensures ∙ not-false _ c.if-not-within.false-raw in
-    let bounds : →
-    let n = length c.args.chunk.now in
+    let bounds : let n = length c.args.chunk.now in
     let o = c.sizes_of-z.result.overhead in
     (o + 1 ≤ n) × (n ≤ 32768 + o) = within-sizes _ _ _ (sized) in
-    let room : →
-    let x = c.args in
+    let room : let x = c.args in
     let n = length x.chunk.now - c.sizes_of-z.result.overhead in
     length (take n x.out.now) ≡ n = length-take-le _ _ c.if-out-n.false in
     let x = c.args in
     let z = c.sizes_of-z in
-    let h = (head-sizes (sizes_in z.result) (own_head x.header-nonce.now x.key.now)).0 (head) in
+    let h = (head-sizes (sizes_in z.result) (own_head x.header_nonce.now x.key.now)).0 (head) in
     let w = bounds in
     let o = ap (λ (y : Sizes). y.overhead) z.ensures in record { key_len = (h.1, h.0 ∙ ap (λ (y : Sizes). y.nonce) z.ensures); out_len_bound = (omega (arith, w.1, room), omega (arith, w.0, room, o)) }
 
@@ -182,27 +168,24 @@ unfolding open_chunk_rows
 returns-then-not-open_under c enc reserved =
     let by : (enc reserved : List ℕ) →
     let x = c.args in
-    let h = head_with x.header-nonce.now reserved x.key.now in
+    let h = head_with x.header_nonce.now reserved x.key.now in
     open_chunk (codec (sizes_in c.sizes_of-z.result) x.combo enc x.mac.now) h x.number x.chunk.now x.out.now
     ≡ open_chunk (codec_with x.combo enc x.mac.now) h x.number x.chunk.now x.out.now = λ enc reserved. let x = c.args in
-    let h = head_with x.header-nonce.now reserved x.key.now in
+    let h = head_with x.header_nonce.now reserved x.key.now in
     ap (λ (C : Codec). open_chunk C h x.number x.chunk.now x.out.now)
     (ap (λ (z : Sizes). codec z x.combo enc x.mac.now) c.sizes_of-z.ensures ∙ same x.combo enc x.mac.now) in
-    let tested : →
-    let x = c.args in
-    head_right (sizes_in c.sizes_of-z.result) (own_head x.header-nonce.now x.key.now) ≡ c.head_right.result = let x = c.args in
-    ap (λ (z : Sizes). head_right z (own_head x.header-nonce.now x.key.now)) c.sizes_of-z.ensures ∙ sym c.head_right.ensures in
-    let head : →
-    let x = c.args in
-    head_right (sizes_in c.sizes_of-z.result) (own_head x.header-nonce.now x.key.now) ≡ true = tested ∙ not-false _ c.if-not-head_right.false-raw in
-    let sized : →
-    let n = length c.args.chunk.now in
+    let tested : let x = c.args in
+    head_right (sizes_in c.sizes_of-z.result) (own_head x.header_nonce.now x.key.now) ≡ c.head_right.result = let x = c.args in
+    ap (λ (z : Sizes). head_right z (own_head x.header_nonce.now x.key.now)) c.sizes_of-z.ensures ∙ sym c.head_right.ensures in
+    let head : let x = c.args in
+    head_right (sizes_in c.sizes_of-z.result) (own_head x.header_nonce.now x.key.now) ≡ true = tested ∙ not-false _ c.if-not-head_right.false-raw in
+    let sized : let n = length c.args.chunk.now in
     let o = c.sizes_of-z.result.overhead in
     (leb (o + 1) n && leb n (32768 + o)) ≡ true = sym c.within.ensures ∙ not-false _ c.if-not-within.false-raw in
     let u = c.open_under in
     let x = c.args in
     let z = sizes_in c.sizes_of-z.result in
-    let h = head_with x.header-nonce.now reserved x.key.now in
+    let h = head_with x.header_nonce.now reserved x.key.now in
     let d = x.out.now in
     let n = length x.chunk.now - z.overhead in
     let r = not-true _ c.if-not-open_under.true-raw in
@@ -218,33 +201,30 @@ unfolding open_chunk_rows
 returns c enc reserved =
     let by : (enc reserved : List ℕ) →
     let x = c.args in
-    let h = head_with x.header-nonce.now reserved x.key.now in
+    let h = head_with x.header_nonce.now reserved x.key.now in
     open_chunk (codec (sizes_in c.sizes_of-z.result) x.combo enc x.mac.now) h x.number x.chunk.now x.out.now
     ≡ open_chunk (codec_with x.combo enc x.mac.now) h x.number x.chunk.now x.out.now = λ enc reserved. let x = c.args in
-    let h = head_with x.header-nonce.now reserved x.key.now in
+    let h = head_with x.header_nonce.now reserved x.key.now in
     ap (λ (C : Codec). open_chunk C h x.number x.chunk.now x.out.now)
     (ap (λ (z : Sizes). codec z x.combo enc x.mac.now) c.sizes_of-z.ensures ∙ same x.combo enc x.mac.now) in
-    let tested : →
-    let x = c.args in
-    head_right (sizes_in c.sizes_of-z.result) (own_head x.header-nonce.now x.key.now) ≡ c.head_right.result = let x = c.args in
-    ap (λ (z : Sizes). head_right z (own_head x.header-nonce.now x.key.now)) c.sizes_of-z.ensures ∙ sym c.head_right.ensures in
-    let head : →
-    let x = c.args in
-    head_right (sizes_in c.sizes_of-z.result) (own_head x.header-nonce.now x.key.now) ≡ true = tested ∙ not-false _ c.if-not-head_right.false-raw in
-    let sized : →
-    let n = length c.args.chunk.now in
+    let tested : let x = c.args in
+    head_right (sizes_in c.sizes_of-z.result) (own_head x.header_nonce.now x.key.now) ≡ c.head_right.result = let x = c.args in
+    ap (λ (z : Sizes). head_right z (own_head x.header_nonce.now x.key.now)) c.sizes_of-z.ensures ∙ sym c.head_right.ensures in
+    let head : let x = c.args in
+    head_right (sizes_in c.sizes_of-z.result) (own_head x.header_nonce.now x.key.now) ≡ true = tested ∙ not-false _ c.if-not-head_right.false-raw in
+    let sized : let n = length c.args.chunk.now in
     let o = c.sizes_of-z.result.overhead in
     (leb (o + 1) n && leb n (32768 + o)) ≡ true = sym c.within.ensures ∙ not-false _ c.if-not-within.false-raw in
     let u = c.open_under in
     let x = c.args in
     let z = sizes_in c.sizes_of-z.result in
-    let h = head_with x.header-nonce.now reserved x.key.now in
+    let h = head_with x.header_nonce.now reserved x.key.now in
     let d = x.out.now in
     let n = length x.chunk.now - z.overhead in
     let p = opened_under x.combo (aes 8 x.key.now) x.chunk.now in
     let r = not-false _ c.if-not-open_under.false-raw in
     let e = u.ensures.out_after ∙ ap (λ (b : Bool). cond b p (take n d)) r in
-    ap (ended (done (n ∷ []))) (front_filled u.new.out d n p u.auto.1.1.1.1.1.1.0 e)
+    ap (ended (done (n ∷ []))) (front_filled u.new.out d n p u.auto.out e)
     ∙ sym
     (((single_ends (codec z x.combo enc x.mac.now)).3 h x.number x.chunk.now d).1.1
     (ap not (head), (ap not (sized), (le-ltb _ _ c.if-out-n.false, (ap not (sym u.ensures.value ∙ r), tt)))))

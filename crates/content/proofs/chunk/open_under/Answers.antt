@@ -19,23 +19,21 @@ good_chunk-requires c = let p = c.requires.out_len_bound in record { keyed = c.p
 
 pub returns-then-not-good_chunk : goal.returns-then-not-good_chunk
 returns-then-not-good_chunk c =
-    let tested : →
-    let x = c.args in
-    c.good_chunk.result ≡ good_under x.combo (aes 8 x.key.now) x.mac.now x.header-nonce.now x.number x.chunk.now = let x = c.args in
-    c.good_chunk.ensures ∙ ap (λ (e : List ℕ → List ℕ). good_under x.combo e x.mac.now x.header-nonce.now x.number x.chunk.now) c.prepare.ensures.1 in
+    let tested : let x = c.args in
+    c.good_chunk.result ≡ good_under x.combo (aes 8 x.key.now) x.mac.now x.header_nonce.now x.number x.chunk.now = let x = c.args in
+    c.good_chunk.ensures ∙ ap (λ (e : List ℕ → List ℕ). good_under x.combo e x.mac.now x.header_nonce.now x.number x.chunk.now) c.prepare.ensures.1 in
     record { value = sym (not-true _ c.if-not-good_chunk.true-raw) ∙ tested; out_after = refl }
 
 pub open_part-requires : goal.open_part-requires
 open_part-requires c =
     let x = c.args in
-    let good = sym c.good_chunk.ensures ∙ not-false c.good_chunk.result c.if-not-good_chunk.false-raw in record { t_value = (c.table-t.ensures, search rules, (x.mac.now, x.header-nonce.now, x.number, good)); combo_in_bounds = omega (arith, c.requires.out_len_bound.1) }
+    let good = sym c.good_chunk.ensures ∙ not-false c.good_chunk.result c.if-not-good_chunk.false-raw in record { t_value = (c.table-t.ensures, search rules, (x.mac.now, x.header_nonce.now, x.number, good)); combo_in_bounds = omega (arith, c.requires.out_len_bound.1) }
 
 pub returns : goal.returns
 returns c =
-    let tested : →
-    let x = c.args in
-    c.good_chunk.result ≡ good_under x.combo (aes 8 x.key.now) x.mac.now x.header-nonce.now x.number x.chunk.now = let x = c.args in
-    c.good_chunk.ensures ∙ ap (λ (e : List ℕ → List ℕ). good_under x.combo e x.mac.now x.header-nonce.now x.number x.chunk.now) c.prepare.ensures.1 in
+    let tested : let x = c.args in
+    c.good_chunk.result ≡ good_under x.combo (aes 8 x.key.now) x.mac.now x.header_nonce.now x.number x.chunk.now = let x = c.args in
+    c.good_chunk.ensures ∙ ap (λ (e : List ℕ → List ℕ). good_under x.combo e x.mac.now x.header_nonce.now x.number x.chunk.now) c.prepare.ensures.1 in
     let x = c.args in
     let e = aes 8 x.key.now in
     let n = opened-size x.combo e (length-aes 8 x.key.now) x.chunk.now in

@@ -15,4 +15,4 @@ pub returns : goal.returns
 returns c =
     let x = c.args in
     c.seal_chunk.ensures
-    ∙ ap (λ (e : List ℕ → List ℕ). sealed_under x.combo e x.mac.now x.header-nonce.now x.number x.nonce.now x.cleartext.now) c.prepare.ensures.1
+    ∙ ap (λ (e : List ℕ → List ℕ). sealed_under x.combo e x.mac.now x.header_nonce.now x.number x.nonce.now x.cleartext.now) c.prepare.ensures.1

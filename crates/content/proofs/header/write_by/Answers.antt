@@ -74,6 +74,6 @@ returns c =
     let n = c.sizes_of-size.result.header in
     let header = (codec c).header_of (said c) in
     let fits : (sizes_of c.args.combo).header ≤ length d = omega (arith, size, c.if-out-size.false) in
-    ap (ended (done (n ∷ []))) (front_filled s.new.out d n header s.auto.1.1.1.1.1.1.0 s.ensures)
+    ap (ended (done (n ∷ []))) (front_filled s.new.out d n header s.auto.out s.ensures)
     ∙ ap (λ (m : ℕ). ended (done (m ∷ [])) (filled header m d)) (size)
     ∙ sym (((single_ends (codec c)).0 (said c) d).1.1 (sized, (le-ltb _ _ fits, tt))) ∙ by

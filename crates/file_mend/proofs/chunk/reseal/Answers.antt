@@ -38,5 +38,5 @@ returns c =
     let changed = c.copy_at.ensures ∙ ap (placed x.part.now (c.sizes_of.result.nonce + x.lo)) c.open_in_place.ensures
     ∙ ap (λ (m : ℕ). placed x.part.now (m + x.lo) (placed p (sizes_of k).nonce x.chunk.now)) (nonce-size) in
     c.seal_in_place.ensures
-    ∙ ap (sealed_under k e x.mac.now x.header-nonce.now x.number x.nonce.now)
+    ∙ ap (sealed_under k e x.mac.now x.header_nonce.now x.number x.nonce.now)
     (ap (clear_in (sizes_of k)) changed ∙ in_place (sizes_of k) x.part.now p x.chunk.now x.lo (nonce_in_chunk k) (omega (arith, size, f)) (omega (arith, size, f)))

@@ -67,13 +67,12 @@ loop-i-init c =
       omega (arith, c.end_chunk-e.ensures),
       refl,
       λ j a b. c.requires.by_index j a (omega (arith, b, c.end_chunk-e.ensures)),
-      ap (λ (y : ℕ). mended_from z (reseal x.combo x.w.now x.mac.now x.header-nonce.now x.from x.new.now) first (c.end_chunk-e.result - first) (drop y x.nonces.now) x.file.now) e,
+      ap (λ (y : ℕ). mended_from z (reseal x.combo x.w.now x.mac.now x.header_nonce.now x.from x.new.now) first (c.end_chunk-e.result - first) (drop y x.nonces.now) x.file.now) e,
     )
 
 pub overflow_mul-i : goal.overflow_mul-i
 overflow_mul-i c =
-    let here : →
-    let x = c.args in
+    let here : let x = c.args in
     let i = c.loop-i.i in
     (i < x.from / 32768 + covering x.from (length x.new.now)) × (32768 * i < x.n) × (x.from < 32768 * i + 32768) × (32768 * i < x.from + length x.new.now) × (0 < length x.new.now) = let b : c.loop-i.i < c.args.from / 32768 + covering c.args.from (length c.args.new.now) = omega (arith, c.end_chunk-e.ensures) in
     let p = covering-place c.args.n c.args.from (length c.args.new.now) c.loop-i.i c.requires.file_len.1 c.loop-i.invariant.0 b in
@@ -82,8 +81,7 @@ overflow_mul-i c =
 
 pub overflow_mul-i-in-loop-i : goal.overflow_mul-i-in-loop-i
 overflow_mul-i-in-loop-i c =
-    let here : →
-    let x = c.args in
+    let here : let x = c.args in
     let i = c.loop-i.i in
     (i < x.from / 32768 + covering x.from (length x.new.now)) × (32768 * i < x.n) × (x.from < 32768 * i + 32768) × (32768 * i < x.from + length x.new.now) × (0 < length x.new.now) = let b : c.loop-i.i < c.args.from / 32768 + covering c.args.from (length c.args.new.now) = omega (arith, c.end_chunk-e.ensures) in
     let p = covering-place c.args.n c.args.from (length c.args.new.now) c.loop-i.i c.requires.file_len.1 c.loop-i.invariant.0 b in
@@ -92,14 +90,12 @@ overflow_mul-i-in-loop-i c =
 
 pub overflow_sub-new : goal.overflow_sub-new
 overflow_sub-new c =
-    let here : →
-    let x = c.args in
+    let here : let x = c.args in
     let i = c.loop-i.i in
     (i < x.from / 32768 + covering x.from (length x.new.now)) × (32768 * i < x.n) × (x.from < 32768 * i + 32768) × (32768 * i < x.from + length x.new.now) × (0 < length x.new.now) = let b : c.loop-i.i < c.args.from / 32768 + covering c.args.from (length c.args.new.now) = omega (arith, c.end_chunk-e.ensures) in
     let p = covering-place c.args.n c.args.from (length c.args.new.now) c.loop-i.i c.requires.file_len.1 c.loop-i.invariant.0 b in
     (b, p.0, p.1, p.2, p.3) in
-    let place : →
-    let x = c.args in
+    let place : let x = c.args in
     let i = c.loop-i.i in
     let lo = c.less-lo.result in
     let d = c.less-d.result in
@@ -110,14 +106,12 @@ overflow_sub-new c =
 
 pub part_len-requires : goal.part_len-requires
 part_len-requires c =
-    let here : →
-    let x = c.args in
+    let here : let x = c.args in
     let i = c.loop-i.i in
     (i < x.from / 32768 + covering x.from (length x.new.now)) × (32768 * i < x.n) × (x.from < 32768 * i + 32768) × (32768 * i < x.from + length x.new.now) × (0 < length x.new.now) = let b : c.loop-i.i < c.args.from / 32768 + covering c.args.from (length c.args.new.now) = omega (arith, c.end_chunk-e.ensures) in
     let p = covering-place c.args.n c.args.from (length c.args.new.now) c.loop-i.i c.requires.file_len.1 c.loop-i.invariant.0 b in
     (b, p.0, p.1, p.2, p.3) in
-    let place : →
-    let x = c.args in
+    let place : let x = c.args in
     let i = c.loop-i.i in
     let lo = c.less-lo.result in
     let d = c.less-d.result in
@@ -128,22 +122,19 @@ part_len-requires c =
 
 pub overflow_add-q : goal.overflow_add-q
 overflow_add-q c =
-    let here : →
-    let x = c.args in
+    let here : let x = c.args in
     let i = c.loop-i.i in
     (i < x.from / 32768 + covering x.from (length x.new.now)) × (32768 * i < x.n) × (x.from < 32768 * i + 32768) × (32768 * i < x.from + length x.new.now) × (0 < length x.new.now) = let b : c.loop-i.i < c.args.from / 32768 + covering c.args.from (length c.args.new.now) = omega (arith, c.end_chunk-e.ensures) in
     let p = covering-place c.args.n c.args.from (length c.args.new.now) c.loop-i.i c.requires.file_len.1 c.loop-i.invariant.0 b in
     (b, p.0, p.1, p.2, p.3) in
-    let place : →
-    let x = c.args in
+    let place : let x = c.args in
     let i = c.loop-i.i in
     let lo = c.less-lo.result in
     let d = c.less-d.result in
     (lo < 32768) × (d < length x.new.now) × (x.from + d ≡ 32768 * i + lo) × ((d ≡ 0) ⊎ (lo ≡ 0)) = let h = here in
     let x = c.args in
     places x.from (length x.new.now) c.loop-i.i c.less-lo.result c.less-d.result h.4 h.2 h.3 c.less-lo.ensures c.less-d.ensures in
-    let part_end : →
-    c.less-d.result + c.part_len.result ≤ length c.args.new.now = omega (arith, c.part_len.ensures.3, (place).1) in
+    let part_end : c.less-d.result + c.part_len.result ≤ length c.args.new.now = omega (arith, c.part_len.ensures.3, (place).1) in
     omega (arith, part_end)
 
 pub overflow_sub-i : goal.overflow_sub-i
@@ -152,8 +143,7 @@ overflow_sub-i c = omega (arith, c.loop-i.invariant.0)
 pub nonce-requires : goal.nonce-requires
 nonce-requires c =
     let nonce-size : c.sizes_of-s.result.nonce ≡ (sizes_of c.args.combo).nonce = ap (λ (z : Sizes). z.nonce) c.sizes_of-s.ensures in
-    let here : →
-    let x = c.args in
+    let here : let x = c.args in
     let i = c.loop-i.i in
     (i < x.from / 32768 + covering x.from (length x.new.now)) × (32768 * i < x.n) × (x.from < 32768 * i + 32768) × (32768 * i < x.from + length x.new.now) × (0 < length x.new.now) = let b : c.loop-i.i < c.args.from / 32768 + covering c.args.from (length c.args.new.now) = omega (arith, c.end_chunk-e.ensures) in
     let p = covering-place c.args.n c.args.from (length c.args.new.now) c.loop-i.i c.requires.file_len.1 c.loop-i.invariant.0 b in
@@ -166,43 +156,37 @@ nonce-requires c =
 
 pub slice_bounds-mend_chunk-end : goal.slice_bounds-mend_chunk-end
 slice_bounds-mend_chunk-end c =
-    let here : →
-    let x = c.args in
+    let here : let x = c.args in
     let i = c.loop-i.i in
     (i < x.from / 32768 + covering x.from (length x.new.now)) × (32768 * i < x.n) × (x.from < 32768 * i + 32768) × (32768 * i < x.from + length x.new.now) × (0 < length x.new.now) = let b : c.loop-i.i < c.args.from / 32768 + covering c.args.from (length c.args.new.now) = omega (arith, c.end_chunk-e.ensures) in
     let p = covering-place c.args.n c.args.from (length c.args.new.now) c.loop-i.i c.requires.file_len.1 c.loop-i.invariant.0 b in
     (b, p.0, p.1, p.2, p.3) in
-    let place : →
-    let x = c.args in
+    let place : let x = c.args in
     let i = c.loop-i.i in
     let lo = c.less-lo.result in
     let d = c.less-d.result in
     (lo < 32768) × (d < length x.new.now) × (x.from + d ≡ 32768 * i + lo) × ((d ≡ 0) ⊎ (lo ≡ 0)) = let h = here in
     let x = c.args in
     places x.from (length x.new.now) c.loop-i.i c.less-lo.result c.less-d.result h.4 h.2 h.3 c.less-lo.ensures c.less-d.ensures in
-    let part_end : →
-    c.less-d.result + c.part_len.result ≤ length c.args.new.now = omega (arith, c.part_len.ensures.3, (place).1) in
+    let part_end : c.less-d.result + c.part_len.result ≤ length c.args.new.now = omega (arith, c.part_len.ensures.3, (place).1) in
     part_end
 
 pub mend_chunk-requires : goal.mend_chunk-requires
 mend_chunk-requires c =
     let nonce-size : c.sizes_of-s.result.nonce ≡ (sizes_of c.args.combo).nonce = ap (λ (z : Sizes). z.nonce) c.sizes_of-s.ensures in
-    let here : →
-    let x = c.args in
+    let here : let x = c.args in
     let i = c.loop-i.i in
     (i < x.from / 32768 + covering x.from (length x.new.now)) × (32768 * i < x.n) × (x.from < 32768 * i + 32768) × (32768 * i < x.from + length x.new.now) × (0 < length x.new.now) = let b : c.loop-i.i < c.args.from / 32768 + covering c.args.from (length c.args.new.now) = omega (arith, c.end_chunk-e.ensures) in
     let p = covering-place c.args.n c.args.from (length c.args.new.now) c.loop-i.i c.requires.file_len.1 c.loop-i.invariant.0 b in
     (b, p.0, p.1, p.2, p.3) in
-    let place : →
-    let x = c.args in
+    let place : let x = c.args in
     let i = c.loop-i.i in
     let lo = c.less-lo.result in
     let d = c.less-d.result in
     (lo < 32768) × (d < length x.new.now) × (x.from + d ≡ 32768 * i + lo) × ((d ≡ 0) ⊎ (lo ≡ 0)) = let h = here in
     let x = c.args in
     places x.from (length x.new.now) c.loop-i.i c.less-lo.result c.less-d.result h.4 h.2 h.3 c.less-lo.ensures c.less-d.ensures in
-    let part_end : →
-    c.less-d.result + c.part_len.result ≤ length c.args.new.now = omega (arith, c.part_len.ensures.3, (place).1) in
+    let part_end : c.less-d.result + c.part_len.result ≤ length c.args.new.now = omega (arith, c.part_len.ensures.3, (place).1) in
     let x = c.args in
     let h = here in
     let p = place in
@@ -220,15 +204,13 @@ loop-i-smaller c =
 pub loop-i-preserved : goal.loop-i-preserved
 loop-i-preserved c =
     let nonce-size : c.sizes_of-s.result.nonce ≡ (sizes_of c.args.combo).nonce = ap (λ (z : Sizes). z.nonce) c.sizes_of-s.ensures in
-    let here : →
-    let x = c.args in
+    let here : let x = c.args in
     let i = c.loop-i.i in
     (i < x.from / 32768 + covering x.from (length x.new.now)) × (32768 * i < x.n) × (x.from < 32768 * i + 32768) × (32768 * i < x.from + length x.new.now) × (0 < length x.new.now) = let b : c.loop-i.i < c.args.from / 32768 + covering c.args.from (length c.args.new.now) = omega (arith, c.end_chunk-e.ensures) in
     let p = covering-place c.args.n c.args.from (length c.args.new.now) c.loop-i.i c.requires.file_len.1 c.loop-i.invariant.0 b in
     (b, p.0, p.1, p.2, p.3) in
     let on : c.loop-i.i < c.end_chunk-e.result = search rules in
-    let place : →
-    let x = c.args in
+    let place : let x = c.args in
     let i = c.loop-i.i in
     let lo = c.less-lo.result in
     let d = c.less-d.result in
@@ -238,7 +220,7 @@ loop-i-preserved c =
     let x = c.args in
     let z = sizes_of x.combo in
     let b = cipher 14 x.w.now in
-    let seal = sealed_under x.combo b x.mac.now x.header-nonce.now in
+    let seal = sealed_under x.combo b x.mac.now x.header_nonce.now in
     let f = c.loop-i.file in
     let at = c.loop-i.i in
     let old = chunk_at z f at in
@@ -263,8 +245,8 @@ loop-i-preserved c =
       next at e t,
       ap length g ∙ r.0 ∙ c.loop-i.invariant.2,
       λ j a u.
-          ap (λ (y : List ℕ). good_under x.combo b x.mac.now x.header-nonce.now j (chunk_at z y j)) g
-          ∙ ap (good_under x.combo b x.mac.now x.header-nonce.now j) (r.1 j (later at j a))
+          ap (λ (y : List ℕ). good_under x.combo b x.mac.now x.header_nonce.now j (chunk_at z y j)) g
+          ∙ ap (good_under x.combo b x.mac.now x.header_nonce.now j) (r.1 j (later at j a))
           ∙ c.loop-i.invariant.3 j (down at j (later at j a)) u,
       c.loop-i.invariant.4 ∙ r.2 ∙ ap (mended_from z (resealed seal (plain_under x.combo b) x.from x.new.now) (at + 1) (e - (at + 1)) (drop (z.nonce * (at + 1 - first)) x.nonces.now)) (sym g),
     )
@@ -275,7 +257,7 @@ returns c =
     let z = sizes_of x.combo in
     let e = c.end_chunk-e.result in
     let first = x.from / 32768 in
-    let r = reseal x.combo x.w.now x.mac.now x.header-nonce.now x.from x.new.now in
+    let r = reseal x.combo x.w.now x.mac.now x.header_nonce.now x.from x.new.now in
     let k : e - first ≡ covering x.from (length x.new.now) = count e first (covering x.from (length x.new.now)) c.end_chunk-e.ensures in
     let u : e ≤ c.loop-i.i = search rules in
     sym (mended-end z r x.nonces.now c.loop-i.file (drop (z.nonce * (c.loop-i.i - first)) x.nonces.now) c.loop-i.i e u)

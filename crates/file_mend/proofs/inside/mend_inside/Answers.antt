@@ -59,12 +59,11 @@ slice_bounds-header_nonce-end c =
     let nonce-in : (c.sizes_of-s.result.nonce ≤ length c.args.file.now) × (c.sizes_of-s.result.nonce ≤ 16) = let x = c.args in
     let e = nonce-size in
     (omega (arith, e, nonce-within x.combo, file-clear (sizes_of x.combo) (length x.file.now) c.requires.enc_len.2), omega (arith, e, small_nonce x.combo)) in
-    let copied : →
-    let x = c.args in
+    let copied : let x = c.args in
     let n = c.sizes_of-s.result.nonce in
     (n ≤ length c.copy_at.new.dst) × (take n c.copy_at.new.dst ≡ take (sizes_of x.combo).nonce x.file.now) = let x = c.args in
     let n = c.sizes_of-s.result.nonce in
-    let k = c.copy_at.auto.1.0 in (
+    let k = c.copy_at.auto.dst in (
       omega (arith, k, (nonce-in).1),
       ap (take n) c.copy_at.ensures ∙ take_at (take n x.file.now) _ n (length-take-le n x.file.now (nonce-in).0) ∙ ap (λ (m : ℕ). take m x.file.now) (nonce-size),
     ) in
@@ -76,12 +75,11 @@ slice_bounds-mend_under-end-2 c =
     let nonce-in : (c.sizes_of-s.result.nonce ≤ length c.args.file.now) × (c.sizes_of-s.result.nonce ≤ 16) = let x = c.args in
     let e = nonce-size in
     (omega (arith, e, nonce-within x.combo, file-clear (sizes_of x.combo) (length x.file.now) c.requires.enc_len.2), omega (arith, e, small_nonce x.combo)) in
-    let copied : →
-    let x = c.args in
+    let copied : let x = c.args in
     let n = c.sizes_of-s.result.nonce in
     (n ≤ length c.copy_at.new.dst) × (take n c.copy_at.new.dst ≡ take (sizes_of x.combo).nonce x.file.now) = let x = c.args in
     let n = c.sizes_of-s.result.nonce in
-    let k = c.copy_at.auto.1.0 in (
+    let k = c.copy_at.auto.dst in (
       omega (arith, k, (nonce-in).1),
       ap (take n) c.copy_at.ensures ∙ take_at (take n x.file.now) _ n (length-take-le n x.file.now (nonce-in).0) ∙ ap (λ (m : ℕ). take m x.file.now) (nonce-size),
     ) in
@@ -93,12 +91,11 @@ mend_under-requires c =
     let nonce-in : (c.sizes_of-s.result.nonce ≤ length c.args.file.now) × (c.sizes_of-s.result.nonce ≤ 16) = let x = c.args in
     let e = nonce-size in
     (omega (arith, e, nonce-within x.combo, file-clear (sizes_of x.combo) (length x.file.now) c.requires.enc_len.2), omega (arith, e, small_nonce x.combo)) in
-    let copied : →
-    let x = c.args in
+    let copied : let x = c.args in
     let n = c.sizes_of-s.result.nonce in
     (n ≤ length c.copy_at.new.dst) × (take n c.copy_at.new.dst ≡ take (sizes_of x.combo).nonce x.file.now) = let x = c.args in
     let n = c.sizes_of-s.result.nonce in
-    let k = c.copy_at.auto.1.0 in (
+    let k = c.copy_at.auto.dst in (
       omega (arith, k, (nonce-in).1),
       ap (take n) c.copy_at.ensures ∙ take_at (take n x.file.now) _ n (length-take-le n x.file.now (nonce-in).0) ∙ ap (λ (m : ℕ). take m x.file.now) (nonce-size),
     ) in
@@ -117,12 +114,11 @@ returns c =
     let nonce-in : (c.sizes_of-s.result.nonce ≤ length c.args.file.now) × (c.sizes_of-s.result.nonce ≤ 16) = let x = c.args in
     let e = nonce-size in
     (omega (arith, e, nonce-within x.combo, file-clear (sizes_of x.combo) (length x.file.now) c.requires.enc_len.2), omega (arith, e, small_nonce x.combo)) in
-    let copied : →
-    let x = c.args in
+    let copied : let x = c.args in
     let n = c.sizes_of-s.result.nonce in
     (n ≤ length c.copy_at.new.dst) × (take n c.copy_at.new.dst ≡ take (sizes_of x.combo).nonce x.file.now) = let x = c.args in
     let n = c.sizes_of-s.result.nonce in
-    let k = c.copy_at.auto.1.0 in (
+    let k = c.copy_at.auto.dst in (
       omega (arith, k, (nonce-in).1),
       ap (take n) c.copy_at.ensures ∙ take_at (take n x.file.now) _ n (length-take-le n x.file.now (nonce-in).0) ∙ ap (λ (m : ℕ). take m x.file.now) (nonce-size),
     ) in
@@ -134,7 +130,7 @@ returns c =
     let k = (sized_exactly x.combo x.enc.now x.mac.now).1 (c.requires.enc_len.0, c.requires.enc_len.1) in
     let p = c.open_head.new.payload in
     let said : p ≡ payload_of (C.head_of b) = c.open_head.ensures.payload_after ∙ ap (λ (r : Bool). cond r (payload_of (C.head_of b)) (replicate 40 0)) t in
-    let n : length p ≡ 40 = c.open_head.auto.1.1.1.1.1.0 in
+    let n : length p ≡ 40 = c.open_head.auto.payload in
     c.mend_under.ensures
     ∙ ap₂ (λ (nonce key : List ℕ). mend_under x.combo x.mac.now nonce key f x.from x.new.now x.nonces.now) (copied).1 (key-part x.enc.now x.mac.now b p x.combo said n)
     ∙ sym (mend_under_lem x.enc.now x.mac.now f x.from x.new.now x.nonces.now x.combo k c.requires.enc_len.5 c.requires.enc_len.2 (omega (arith, c.requires.enc_len.3, c.requires.enc_len.4)) c.requires.nonces_value (sym c.open_head.ensures.value ∙ t))

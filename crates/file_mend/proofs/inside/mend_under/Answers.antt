@@ -26,41 +26,39 @@ lowest_bad-i-requires c =
 pub returns-then-i-e : goal.returns-then-i-e
 unfolding bad_under
 returns-then-i-e c =
-    let found : →
-    let x = c.args in
-    c.lowest_bad-i.result ≡ bad_under x.combo x.mac.now x.header-nonce.now x.key.now x.file.now x.from (length x.new.now) = let e = c.end_chunk-e in
+    let found : let x = c.args in
+    c.lowest_bad-i.result ≡ bad_under x.combo x.mac.now x.header_nonce.now x.key.now x.file.now x.from (length x.new.now) = let e = c.end_chunk-e in
     let x = c.args in
     let m : e.result - x.from / 32768 ≡ covering x.from (length x.new.now) = omega (arith, e.ensures) in
     c.lowest_bad-i.ensures
-    ∙ ap₂ (λ (b : List ℕ → List ℕ) (j : ℕ). lowest_bad (sizes_of x.combo) (good_under x.combo b x.mac.now x.header-nonce.now) x.file.now (x.from / chunk_size) j) c.prepare.ensures.1 m in
+    ∙ ap₂ (λ (b : List ℕ → List ℕ) (j : ℕ). lowest_bad (sizes_of x.combo) (good_under x.combo b x.mac.now x.header_nonce.now) x.file.now (x.from / chunk_size) j) c.prepare.ensures.1 m in
     let x = c.args in
     let f = found in
     let e = c.end_chunk-e.ensures in
     ap (λ (i : ℕ). ended (refused_at 10 i) x.file.now) f
-    ∙ sym (under_bad x.combo x.mac.now x.header-nonce.now x.key.now x.file.now x.from x.new.now x.nonces.now (omega (arith, f, e, c.if-i-e.true)))
+    ∙ sym (under_bad x.combo x.mac.now x.header_nonce.now x.key.now x.file.now x.from x.new.now x.nonces.now (omega (arith, f, e, c.if-i-e.true)))
 
 pub mend_chunks-requires : goal.mend_chunks-requires
 mend_chunks-requires c =
     let e = c.end_chunk-e in
     let x = c.args in
     let z = sizes_of x.combo in
-    let g = good_under x.combo (cipher 14 c.prepare.new.w) x.mac.now x.header-nonce.now in
+    let g = good_under x.combo (cipher 14 c.prepare.new.w) x.mac.now x.header_nonce.now in
     let tagged : (j : ℕ) → x.from / 32768 ≤ j → j < x.from / 32768 + covering x.from (length x.new.now) → g j (chunk_at z x.file.now j) ≡ true =
     λ j l u. below_good z g x.file.now (x.from / 32768) (e.result - x.from / 32768) j l (omega (arith, e.ensures, c.lowest_bad-i.ensures, c.if-i-e.false, u)) in record { keyed = c.prepare.ensures.0; header_nonce_len = (c.requires.key_len.1, c.requires.key_len.4); file_len = (c.requires.key_len.2, c.requires.key_len.3); by_index = tagged }
 
 pub returns : goal.returns
 unfolding bad_under
 returns c =
-    let found : →
-    let x = c.args in
-    c.lowest_bad-i.result ≡ bad_under x.combo x.mac.now x.header-nonce.now x.key.now x.file.now x.from (length x.new.now) = let e = c.end_chunk-e in
+    let found : let x = c.args in
+    c.lowest_bad-i.result ≡ bad_under x.combo x.mac.now x.header_nonce.now x.key.now x.file.now x.from (length x.new.now) = let e = c.end_chunk-e in
     let x = c.args in
     let m : e.result - x.from / 32768 ≡ covering x.from (length x.new.now) = omega (arith, e.ensures) in
     c.lowest_bad-i.ensures
-    ∙ ap₂ (λ (b : List ℕ → List ℕ) (j : ℕ). lowest_bad (sizes_of x.combo) (good_under x.combo b x.mac.now x.header-nonce.now) x.file.now (x.from / chunk_size) j) c.prepare.ensures.1 m in
+    ∙ ap₂ (λ (b : List ℕ → List ℕ) (j : ℕ). lowest_bad (sizes_of x.combo) (good_under x.combo b x.mac.now x.header_nonce.now) x.file.now (x.from / chunk_size) j) c.prepare.ensures.1 m in
     let x = c.args in
     let f = found in
     let e = c.end_chunk-e.ensures in
     ap (ended (done (length x.new.now ∷ [])))
-    (c.mend_chunks.ensures ∙ ap (λ (p : List ℕ → List ℕ). mended_under x.combo p x.mac.now x.header-nonce.now x.file.now x.from x.new.now x.nonces.now) c.prepare.ensures.1)
-    ∙ sym (under_good x.combo x.mac.now x.header-nonce.now x.key.now x.file.now x.from x.new.now x.nonces.now (omega (arith, f, e, c.if-i-e.false)))
+    (c.mend_chunks.ensures ∙ ap (λ (p : List ℕ → List ℕ). mended_under x.combo p x.mac.now x.header_nonce.now x.file.now x.from x.new.now x.nonces.now) c.prepare.ensures.1)
+    ∙ sym (under_good x.combo x.mac.now x.header_nonce.now x.key.now x.file.now x.from x.new.now x.nonces.now (omega (arith, f, e, c.if-i-e.false)))

@@ -30,8 +30,7 @@ nonce-requires c =
 pub returns-then-in_use : goal.returns-then-in_use
 returns-then-in_use c =
     let nonce-size : c.sizes_of-w.result.nonce ≡ (sizes_of c.args.combo).nonce = ap (λ (z : Sizes). z.nonce) c.sizes_of-w.ensures in
-    let found : →
-    let a = c.args in
+    let found : let a = c.args in
     let z = sizes_of a.combo in
     in_use z (take z.nonce (drop (z.nonce * c.loop-i.i) a.nonces.now)) a.file.now 0 (chunks a.n) ≡ c.in_use.result = let a = c.args in
     sym (c.in_use.ensures
@@ -44,8 +43,7 @@ returns-then-in_use c =
 pub loop-i-preserved : goal.loop-i-preserved
 loop-i-preserved c =
     let nonce-size : c.sizes_of-w.result.nonce ≡ (sizes_of c.args.combo).nonce = ap (λ (z : Sizes). z.nonce) c.sizes_of-w.ensures in
-    let found : →
-    let a = c.args in
+    let found : let a = c.args in
     let z = sizes_of a.combo in
     in_use z (take z.nonce (drop (z.nonce * c.loop-i.i) a.nonces.now)) a.file.now 0 (chunks a.n) ≡ c.in_use.result = let a = c.args in
     sym (c.in_use.ensures

@@ -13,16 +13,14 @@ repeats-requires c = omega (arith, ap (λ (z : Sizes). z.nonce * c.args.k) c.siz
 
 pub returns-then-repeats : goal.returns-then-repeats
 returns-then-repeats c =
-    let twice : →
-    let a = c.args in
+    let twice : let a = c.args in
     repeats (sizes_of a.combo).nonce a.k a.nonces.now ≡ c.repeats.result = let a = c.args in
     sym (c.repeats.ensures ∙ ap (λ (z : Sizes). repeats z.nonce a.k a.nonces.now) c.sizes_of.ensures) in
     rw (twice ∙ c.if-repeats.true)
 
 pub returns : goal.returns
 returns c =
-    let twice : →
-    let a = c.args in
+    let twice : let a = c.args in
     repeats (sizes_of a.combo).nonce a.k a.nonces.now ≡ c.repeats.result = let a = c.args in
     sym (c.repeats.ensures ∙ ap (λ (z : Sizes). repeats z.nonce a.k a.nonces.now) c.sizes_of.ensures) in
     rw (c.any_in_use.ensures, twice ∙ c.if-repeats.false)

@@ -34,8 +34,7 @@ slice_bounds-equal-end c =
 pub returns-then-equal : goal.returns-then-equal
 returns-then-equal c =
     let nonce-size : c.sizes_of-w.result.nonce ≡ (sizes_of c.args.combo).nonce = ap (λ (z : Sizes). z.nonce) c.sizes_of-w.ensures in
-    let found : →
-    let a = c.args in
+    let found : let a = c.args in
     same a.x.now (nonce_in (sizes_of a.combo) a.file.now c.loop-i.i) ≡ c.equal.result = let a = c.args in
     sym (c.equal.ensures ∙ ap₂ (λ (m : ℕ) (l : List ℕ). same a.x.now (take m l)) (nonce-size) c.chunk_of-chunk.ensures.0) in
     let k = c.chunks-k.result in
@@ -47,8 +46,7 @@ returns-then-equal c =
 pub loop-i-preserved : goal.loop-i-preserved
 loop-i-preserved c =
     let nonce-size : c.sizes_of-w.result.nonce ≡ (sizes_of c.args.combo).nonce = ap (λ (z : Sizes). z.nonce) c.sizes_of-w.ensures in
-    let found : →
-    let a = c.args in
+    let found : let a = c.args in
     same a.x.now (nonce_in (sizes_of a.combo) a.file.now c.loop-i.i) ≡ c.equal.result = let a = c.args in
     sym (c.equal.ensures ∙ ap₂ (λ (m : ℕ) (l : List ℕ). same a.x.now (take m l)) (nonce-size) c.chunk_of-chunk.ensures.0) in
     let k = c.chunks-k.result in

@@ -22,27 +22,25 @@ good_chunk-requires c = let o = small_overhead c.args.combo in record { keyed = 
 
 pub returns-then-not-good_chunk : goal.returns-then-not-good_chunk
 returns-then-not-good_chunk c =
-    let tested : →
+    let tested : let a = c.args in
+    c.good_chunk.result ≡ good_under a.combo (cipher 14 a.w.now) a.mac.now a.header_nonce.now c.loop-i.i (chunk_at (sizes_of a.combo) a.file.now c.loop-i.i) = let a = c.args in
+    c.good_chunk.ensures ∙ ap (good_under a.combo (cipher 14 a.w.now) a.mac.now a.header_nonce.now c.loop-i.i) c.chunk_of-chunk.ensures.0 in
     let a = c.args in
-    c.good_chunk.result ≡ good_under a.combo (cipher 14 a.w.now) a.mac.now a.header-nonce.now c.loop-i.i (chunk_at (sizes_of a.combo) a.file.now c.loop-i.i) = let a = c.args in
-    c.good_chunk.ensures ∙ ap (good_under a.combo (cipher 14 a.w.now) a.mac.now a.header-nonce.now c.loop-i.i) c.chunk_of-chunk.ensures.0 in
-    let a = c.args in
-    let g = good_under a.combo (cipher 14 a.w.now) a.mac.now a.header-nonce.now in
+    let g = good_under a.combo (cipher 14 a.w.now) a.mac.now a.header_nonce.now in
     let t : g c.loop-i.i (chunk_at (sizes_of a.combo) a.file.now c.loop-i.i) ≡ false = sym (tested) ∙ not-true c.good_chunk.result c.if-not-good_chunk.true-raw in
     sym (c.loop-i.invariant.1 ∙ bad_here (sizes_of a.combo) g a.file.now c.loop-i.i a.e (search rules) t)
 
 pub loop-i-preserved : goal.loop-i-preserved
 loop-i-preserved c =
-    let tested : →
+    let tested : let a = c.args in
+    c.good_chunk.result ≡ good_under a.combo (cipher 14 a.w.now) a.mac.now a.header_nonce.now c.loop-i.i (chunk_at (sizes_of a.combo) a.file.now c.loop-i.i) = let a = c.args in
+    c.good_chunk.ensures ∙ ap (good_under a.combo (cipher 14 a.w.now) a.mac.now a.header_nonce.now c.loop-i.i) c.chunk_of-chunk.ensures.0 in
     let a = c.args in
-    c.good_chunk.result ≡ good_under a.combo (cipher 14 a.w.now) a.mac.now a.header-nonce.now c.loop-i.i (chunk_at (sizes_of a.combo) a.file.now c.loop-i.i) = let a = c.args in
-    c.good_chunk.ensures ∙ ap (good_under a.combo (cipher 14 a.w.now) a.mac.now a.header-nonce.now c.loop-i.i) c.chunk_of-chunk.ensures.0 in
-    let a = c.args in
-    let g = good_under a.combo (cipher 14 a.w.now) a.mac.now a.header-nonce.now in
+    let g = good_under a.combo (cipher 14 a.w.now) a.mac.now a.header_nonce.now in
     let t : g c.loop-i.i (chunk_at (sizes_of a.combo) a.file.now c.loop-i.i) ≡ true = sym (tested) ∙ not-false c.good_chunk.result c.if-not-good_chunk.false-raw in
     (search rules, c.loop-i.invariant.1 ∙ bad_next (sizes_of a.combo) g a.file.now c.loop-i.i a.e (search rules) t)
 
 pub returns : goal.returns
 returns c =
     let a = c.args in
-    sym (c.loop-i.invariant.1 ∙ bad_none (sizes_of a.combo) (good_under a.combo (cipher 14 a.w.now) a.mac.now a.header-nonce.now) a.file.now c.loop-i.i a.e (search rules))
+    sym (c.loop-i.invariant.1 ∙ bad_none (sizes_of a.combo) (good_under a.combo (cipher 14 a.w.now) a.mac.now a.header_nonce.now) a.file.now c.loop-i.i a.e (search rules))

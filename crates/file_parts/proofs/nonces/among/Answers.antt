@@ -20,8 +20,7 @@ nonce-requires c = omega (arith, ends_within c.args.w c.args.k c.loop-i.i (lengt
 
 pub returns-then-equal : goal.returns-then-equal
 returns-then-equal c =
-    let found : →
-    let x = c.args in
+    let found : let x = c.args in
     same x.x.now (take x.w (drop (x.w * c.loop-i.i) x.nonces.now)) ≡ c.equal.result = let x = c.args in
     ap (same x.x.now) (sym c.nonce.ensures.0) ∙ sym c.equal.ensures in
     let x = c.args in
@@ -30,8 +29,7 @@ returns-then-equal c =
 
 pub loop-i-preserved : goal.loop-i-preserved
 loop-i-preserved c =
-    let found : →
-    let x = c.args in
+    let found : let x = c.args in
     same x.x.now (take x.w (drop (x.w * c.loop-i.i) x.nonces.now)) ≡ c.equal.result = let x = c.args in
     ap (same x.x.now) (sym c.nonce.ensures.0) ∙ sym c.equal.ensures in
     let x = c.args in

@@ -15,29 +15,25 @@ loop-i-init c = let x = c.args in (omega arith, repeats_all x.w x.k x.nonces.now
 
 pub nonce-requires : goal.nonce-requires
 nonce-requires c =
-    let ends : →
-    let x = c.args in
+    let ends : let x = c.args in
     x.w * c.loop-i.i + x.w ≤ length x.nonces.now = ends_within c.args.w c.args.k c.loop-i.i (length c.args.nonces.now) (omega arith) c.requires in
     omega (arith, ends)
 
 pub overflow_mul-w : goal.overflow_mul-w
 overflow_mul-w c =
-    let ends : →
-    let x = c.args in
+    let ends : let x = c.args in
     x.w * c.loop-i.i + x.w ≤ length x.nonces.now = ends_within c.args.w c.args.k c.loop-i.i (length c.args.nonces.now) (omega arith) c.requires in
     omega (arith, ends)
 
 pub slice_bounds-among-count : goal.slice_bounds-among-count
 slice_bounds-among-count c =
-    let ends : →
-    let x = c.args in
+    let ends : let x = c.args in
     x.w * c.loop-i.i + x.w ≤ length x.nonces.now = ends_within c.args.w c.args.k c.loop-i.i (length c.args.nonces.now) (omega arith) c.requires in
     omega (arith, ends)
 
 pub slice_bounds-among-start : goal.slice_bounds-among-start
 slice_bounds-among-start c =
-    let ends : →
-    let x = c.args in
+    let ends : let x = c.args in
     x.w * c.loop-i.i + x.w ≤ length x.nonces.now = ends_within c.args.w c.args.k c.loop-i.i (length c.args.nonces.now) (omega arith) c.requires in
     omega (arith, ends)
 
@@ -50,8 +46,7 @@ among-requires c =
 
 pub returns-then-among : goal.returns-then-among
 returns-then-among c =
-    let found : →
-    let x = c.args in
+    let found : let x = c.args in
     let i = c.loop-i.i in
     among x.w (x.k - (i + 1)) (take x.w (drop (x.w * i) x.nonces.now)) (drop (x.w * (i + 1)) x.nonces.now) ≡ c.among.result = let x = c.args in
     let r = part-rest x.nonces.now (length x.nonces.now) (x.w * (c.loop-i.i + 1)) refl in
@@ -62,8 +57,7 @@ returns-then-among c =
 
 pub loop-i-preserved : goal.loop-i-preserved
 loop-i-preserved c =
-    let found : →
-    let x = c.args in
+    let found : let x = c.args in
     let i = c.loop-i.i in
     among x.w (x.k - (i + 1)) (take x.w (drop (x.w * i) x.nonces.now)) (drop (x.w * (i + 1)) x.nonces.now) ≡ c.among.result = let x = c.args in
     let r = part-rest x.nonces.now (length x.nonces.now) (x.w * (c.loop-i.i + 1)) refl in

@@ -28,8 +28,7 @@ held k l n h = omega (arith, nonce-within k, h)
 pub slice_bounds-lowest_bad-end-2 : goal.slice_bounds-lowest_bad-end-2
 slice_bounds-lowest_bad-end-2 c =
     let nonce-size : c.sizes_of-s.result.nonce ≡ (sizes_of c.args.combo).nonce = ap (λ (z : Sizes). z.nonce) c.sizes_of-s.ensures in
-    let nonce_long : →
-    length (take c.sizes_of-s.result.nonce c.args.file.now) ≡ (sizes_of c.args.combo).nonce = let x = c.args in
+    let nonce_long : length (take c.sizes_of-s.result.nonce c.args.file.now) ≡ (sizes_of c.args.combo).nonce = let x = c.args in
     let h = held x.combo (length x.file.now) x.n c.requires.key_len.1 in
     length-take-le c.sizes_of-s.result.nonce x.file.now (omega (arith, nonce-size, h)) ∙ nonce-size in
     sym (nonce_long ∙ sym (nonce-size))
@@ -37,8 +36,7 @@ slice_bounds-lowest_bad-end-2 c =
 pub lowest_bad-i-requires : goal.lowest_bad-i-requires
 lowest_bad-i-requires c =
     let nonce-size : c.sizes_of-s.result.nonce ≡ (sizes_of c.args.combo).nonce = ap (λ (z : Sizes). z.nonce) c.sizes_of-s.ensures in
-    let nonce_long : →
-    length (take c.sizes_of-s.result.nonce c.args.file.now) ≡ (sizes_of c.args.combo).nonce = let x = c.args in
+    let nonce_long : length (take c.sizes_of-s.result.nonce c.args.file.now) ≡ (sizes_of c.args.combo).nonce = let x = c.args in
     let h = held x.combo (length x.file.now) x.n c.requires.key_len.1 in
     length-take-le c.sizes_of-s.result.nonce x.file.now (omega (arith, nonce-size, h)) ∙ nonce-size in
     let e = c.end_chunk-e in
@@ -48,8 +46,7 @@ pub returns-then-i-e : goal.returns-then-i-e
 unfolding bad_under
 returns-then-i-e c =
     let nonce-size : c.sizes_of-s.result.nonce ≡ (sizes_of c.args.combo).nonce = ap (λ (z : Sizes). z.nonce) c.sizes_of-s.ensures in
-    let found : →
-    let x = c.args in
+    let found : let x = c.args in
     c.lowest_bad-i.result ≡ bad_under x.combo x.mac.now (take (sizes_of x.combo).nonce x.file.now) x.key.now x.file.now x.from x.count = let e = c.end_chunk-e in
     let x = c.args in
     let m : e.result - x.from / 32768 ≡ covering x.from x.count = omega (arith, e.ensures) in
@@ -79,8 +76,7 @@ pub returns : goal.returns
 unfolding bad_under
 returns c =
     let nonce-size : c.sizes_of-s.result.nonce ≡ (sizes_of c.args.combo).nonce = ap (λ (z : Sizes). z.nonce) c.sizes_of-s.ensures in
-    let found : →
-    let x = c.args in
+    let found : let x = c.args in
     c.lowest_bad-i.result ≡ bad_under x.combo x.mac.now (take (sizes_of x.combo).nonce x.file.now) x.key.now x.file.now x.from x.count = let e = c.end_chunk-e in
     let x = c.args in
     let m : e.result - x.from / 32768 ≡ covering x.from x.count = omega (arith, e.ensures) in

@@ -43,7 +43,7 @@ returns c =
     let k = (sized_exactly x.combo x.enc.now x.mac.now).1 (c.requires.0, c.requires.1) in
     let p = c.open_head.new.payload in
     let said : p ≡ payload_of (C.head_of b) = c.open_head.ensures.payload_after ∙ ap (λ (r : Bool). cond r (payload_of (C.head_of b)) (replicate 40 0)) t in
-    let n : length p ≡ 40 = c.open_head.auto.1.1.1.1.1.0 in
+    let n : length p ≡ 40 = c.open_head.auto.payload in
     c.read_under.ensures
     ∙ ap (λ (key : List ℕ). read_under x.combo x.mac.now (take (sizes_of x.combo).nonce f) key f x.from x.count x.out.now) (key-part x.enc.now x.mac.now b p x.combo said n)
     ∙ sym (read_under_lem x.enc.now x.mac.now f x.from x.count x.out.now x.combo k c.requires.2 (omega (arith, c.requires.3, c.requires.4)) c.requires.5 (sym c.open_head.ensures.value ∙ t))

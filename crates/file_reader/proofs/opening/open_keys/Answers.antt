@@ -50,7 +50,7 @@ returns c =
     let e = opens x.v x.file.now (keyed) (sized) (sym c.open_head.ensures.value ∙ t) in
     let p = c.open_head.new.payload in
     let said : p ≡ payload_of (C.head_of b) = c.open_head.ensures.payload_after ∙ ap (λ (r : Bool). cond r (payload_of (C.head_of b)) (replicate 40 0)) t in
-    let n : length p ≡ 40 = c.open_head.auto.1.1.1.1.1.0 in
+    let n : length p ≡ 40 = c.open_head.auto.payload in
     let key = c.copy_at.ensures ∙ placed_all (take (40 - 8) (drop 8 p)) (replicate 32 0) (search rules) ∙ key-part x.v.enc x.v.mac b p x.v.combo said n in (
       ap (λ (c : ℕ). done (c ∷ [])) c.clear_length.ensures ∙ sym (ap (λ (m : Kept). m.outcome) e),
       c.keys_of.ensures ∙ ap (λ (k : List ℕ). keys_with k (mac_for x.v.combo x.v.mac) x.v.combo) key ∙ sym (ap (λ (m : Kept). m.keys) e),

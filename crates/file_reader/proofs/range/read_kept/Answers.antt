@@ -29,8 +29,7 @@ returns-then-outside c =
 pub returns-then-out-count : goal.returns-then-out-count
 returns-then-out-count c =
     let sized : let x = c.args in right_length (sizes_of x.keys.combo) (length x.file.now) ≡ true = sym c.right_length.ensures ∙ not-false c.right_length.result c.if-not-right_length.false-raw in
-    let within : →
-    let x = c.args in
+    let within : let x = c.args in
     x.from + x.count ≤ clear_length (sizes_of x.keys.combo) (length x.file.now) = let x = c.args in
     let n = c.clear_length-n in
     let h = ltb-false n.result (x.from + x.count) (sym c.outside.ensures ∙ c.if-outside.false) in
@@ -41,8 +40,7 @@ returns-then-out-count c =
 pub read_under-requires : goal.read_under-requires
 read_under-requires c =
     let sized : let x = c.args in right_length (sizes_of x.keys.combo) (length x.file.now) ≡ true = sym c.right_length.ensures ∙ not-false c.right_length.result c.if-not-right_length.false-raw in
-    let within : →
-    let x = c.args in
+    let within : let x = c.args in
     x.from + x.count ≤ clear_length (sizes_of x.keys.combo) (length x.file.now) = let x = c.args in
     let n = c.clear_length-n in
     let h = ltb-false n.result (x.from + x.count) (sym c.outside.ensures ∙ c.if-outside.false) in
@@ -54,8 +52,7 @@ read_under-requires c =
 pub returns : goal.returns
 returns c =
     let sized : let x = c.args in right_length (sizes_of x.keys.combo) (length x.file.now) ≡ true = sym c.right_length.ensures ∙ not-false c.right_length.result c.if-not-right_length.false-raw in
-    let within : →
-    let x = c.args in
+    let within : let x = c.args in
     x.from + x.count ≤ clear_length (sizes_of x.keys.combo) (length x.file.now) = let x = c.args in
     let n = c.clear_length-n in
     let h = ltb-false n.result (x.from + x.count) (sym c.outside.ensures ∙ c.if-outside.false) in

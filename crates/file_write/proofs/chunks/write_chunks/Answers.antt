@@ -21,20 +21,18 @@ loop-i-init c =
     let z = c.sizes_of-z.result in
     let n = length x.cleartext.now in
     let a : min 0 n + z.overhead * 0 ≡ 0 = omega (arith, mul-zero z.overhead) in
-    let all = chunks_all (sizes_in z) (sealed_under x.combo (cipher 14 x.w.now) x.mac.now x.header-nonce.now) c.chunks-k.result x.nonces.now x.cleartext.now in
+    let all = chunks_all (sizes_in z) (sealed_under x.combo (cipher 14 x.w.now) x.mac.now x.header_nonce.now) c.chunks-k.result x.nonces.now x.cleartext.now in
     (omega arith, refl, rw a all)
 
 pub overflow_add-a : goal.overflow_add-a
 overflow_add-a c =
-    let sized : →
-    let x = c.args in
+    let sized : let x = c.args in
     let z = c.sizes_of-z.result in
     (length x.nonces.now ≡ z.nonce * c.chunks-k.result) × (length x.out.now ≡ length x.cleartext.now + z.overhead * c.chunks-k.result) = let n = length c.args.cleartext.now in
     let e = sym c.sizes_of-z.ensures in
     let k = sym c.chunks-k.ensures in
     (c.requires.header_nonce_len.1 ∙ ap₂ (λ (z : Sizes) (m : ℕ). z.nonce * m) e k, c.requires.header_nonce_len.2 ∙ ap₂ (λ (z : Sizes) (m : ℕ). n + z.overhead * m) e k) in
-    let ends : →
-    let o = c.sizes_of-z.result.overhead in
+    let ends : let o = c.sizes_of-z.result.overhead in
     (32768 + o) * c.loop-i.i + length c.clear-p.result.now + o ≤ length c.loop-i.out = let o = c.sizes_of-z.result.overhead in
     let n = length c.args.cleartext.now in
     omega (arith, chunk_within o n c.chunks-k.result c.loop-i.i c.chunks-k.ensures (omega arith), c.clear-p.ensures.1, (sized).1, c.loop-i.invariant.1) in
@@ -42,15 +40,13 @@ overflow_add-a c =
 
 pub overflow_mul-a : goal.overflow_mul-a
 overflow_mul-a c =
-    let sized : →
-    let x = c.args in
+    let sized : let x = c.args in
     let z = c.sizes_of-z.result in
     (length x.nonces.now ≡ z.nonce * c.chunks-k.result) × (length x.out.now ≡ length x.cleartext.now + z.overhead * c.chunks-k.result) = let n = length c.args.cleartext.now in
     let e = sym c.sizes_of-z.ensures in
     let k = sym c.chunks-k.ensures in
     (c.requires.header_nonce_len.1 ∙ ap₂ (λ (z : Sizes) (m : ℕ). z.nonce * m) e k, c.requires.header_nonce_len.2 ∙ ap₂ (λ (z : Sizes) (m : ℕ). n + z.overhead * m) e k) in
-    let ends : →
-    let o = c.sizes_of-z.result.overhead in
+    let ends : let o = c.sizes_of-z.result.overhead in
     (32768 + o) * c.loop-i.i + length c.clear-p.result.now + o ≤ length c.loop-i.out = let o = c.sizes_of-z.result.overhead in
     let n = length c.args.cleartext.now in
     omega (arith, chunk_within o n c.chunks-k.result c.loop-i.i c.chunks-k.ensures (omega arith), c.clear-p.ensures.1, (sized).1, c.loop-i.invariant.1) in
@@ -58,15 +54,13 @@ overflow_mul-a c =
 
 pub overflow_add-e : goal.overflow_add-e
 overflow_add-e c =
-    let sized : →
-    let x = c.args in
+    let sized : let x = c.args in
     let z = c.sizes_of-z.result in
     (length x.nonces.now ≡ z.nonce * c.chunks-k.result) × (length x.out.now ≡ length x.cleartext.now + z.overhead * c.chunks-k.result) = let n = length c.args.cleartext.now in
     let e = sym c.sizes_of-z.ensures in
     let k = sym c.chunks-k.ensures in
     (c.requires.header_nonce_len.1 ∙ ap₂ (λ (z : Sizes) (m : ℕ). z.nonce * m) e k, c.requires.header_nonce_len.2 ∙ ap₂ (λ (z : Sizes) (m : ℕ). n + z.overhead * m) e k) in
-    let ends : →
-    let o = c.sizes_of-z.result.overhead in
+    let ends : let o = c.sizes_of-z.result.overhead in
     (32768 + o) * c.loop-i.i + length c.clear-p.result.now + o ≤ length c.loop-i.out = let o = c.sizes_of-z.result.overhead in
     let n = length c.args.cleartext.now in
     omega (arith, chunk_within o n c.chunks-k.result c.loop-i.i c.chunks-k.ensures (omega arith), c.clear-p.ensures.1, (sized).1, c.loop-i.invariant.1) in
@@ -74,15 +68,13 @@ overflow_add-e c =
 
 pub overflow_add-e-in-loop-i : goal.overflow_add-e-in-loop-i
 overflow_add-e-in-loop-i c =
-    let sized : →
-    let x = c.args in
+    let sized : let x = c.args in
     let z = c.sizes_of-z.result in
     (length x.nonces.now ≡ z.nonce * c.chunks-k.result) × (length x.out.now ≡ length x.cleartext.now + z.overhead * c.chunks-k.result) = let n = length c.args.cleartext.now in
     let e = sym c.sizes_of-z.ensures in
     let k = sym c.chunks-k.ensures in
     (c.requires.header_nonce_len.1 ∙ ap₂ (λ (z : Sizes) (m : ℕ). z.nonce * m) e k, c.requires.header_nonce_len.2 ∙ ap₂ (λ (z : Sizes) (m : ℕ). n + z.overhead * m) e k) in
-    let ends : →
-    let o = c.sizes_of-z.result.overhead in
+    let ends : let o = c.sizes_of-z.result.overhead in
     (32768 + o) * c.loop-i.i + length c.clear-p.result.now + o ≤ length c.loop-i.out = let o = c.sizes_of-z.result.overhead in
     let n = length c.args.cleartext.now in
     omega (arith, chunk_within o n c.chunks-k.result c.loop-i.i c.chunks-k.ensures (omega arith), c.clear-p.ensures.1, (sized).1, c.loop-i.invariant.1) in
@@ -90,8 +82,7 @@ overflow_add-e-in-loop-i c =
 
 pub nonce-requires : goal.nonce-requires
 nonce-requires c =
-    let sized : →
-    let x = c.args in
+    let sized : let x = c.args in
     let z = c.sizes_of-z.result in
     (length x.nonces.now ≡ z.nonce * c.chunks-k.result) × (length x.out.now ≡ length x.cleartext.now + z.overhead * c.chunks-k.result) = let n = length c.args.cleartext.now in
     let e = sym c.sizes_of-z.ensures in
@@ -103,15 +94,13 @@ nonce-requires c =
 
 pub slice_bounds-seal_chunk-count : goal.slice_bounds-seal_chunk-count
 slice_bounds-seal_chunk-count c =
-    let sized : →
-    let x = c.args in
+    let sized : let x = c.args in
     let z = c.sizes_of-z.result in
     (length x.nonces.now ≡ z.nonce * c.chunks-k.result) × (length x.out.now ≡ length x.cleartext.now + z.overhead * c.chunks-k.result) = let n = length c.args.cleartext.now in
     let e = sym c.sizes_of-z.ensures in
     let k = sym c.chunks-k.ensures in
     (c.requires.header_nonce_len.1 ∙ ap₂ (λ (z : Sizes) (m : ℕ). z.nonce * m) e k, c.requires.header_nonce_len.2 ∙ ap₂ (λ (z : Sizes) (m : ℕ). n + z.overhead * m) e k) in
-    let ends : →
-    let o = c.sizes_of-z.result.overhead in
+    let ends : let o = c.sizes_of-z.result.overhead in
     (32768 + o) * c.loop-i.i + length c.clear-p.result.now + o ≤ length c.loop-i.out = let o = c.sizes_of-z.result.overhead in
     let n = length c.args.cleartext.now in
     omega (arith, chunk_within o n c.chunks-k.result c.loop-i.i c.chunks-k.ensures (omega arith), c.clear-p.ensures.1, (sized).1, c.loop-i.invariant.1) in
@@ -119,15 +108,13 @@ slice_bounds-seal_chunk-count c =
 
 pub slice_bounds-seal_chunk-start : goal.slice_bounds-seal_chunk-start
 slice_bounds-seal_chunk-start c =
-    let sized : →
-    let x = c.args in
+    let sized : let x = c.args in
     let z = c.sizes_of-z.result in
     (length x.nonces.now ≡ z.nonce * c.chunks-k.result) × (length x.out.now ≡ length x.cleartext.now + z.overhead * c.chunks-k.result) = let n = length c.args.cleartext.now in
     let e = sym c.sizes_of-z.ensures in
     let k = sym c.chunks-k.ensures in
     (c.requires.header_nonce_len.1 ∙ ap₂ (λ (z : Sizes) (m : ℕ). z.nonce * m) e k, c.requires.header_nonce_len.2 ∙ ap₂ (λ (z : Sizes) (m : ℕ). n + z.overhead * m) e k) in
-    let ends : →
-    let o = c.sizes_of-z.result.overhead in
+    let ends : let o = c.sizes_of-z.result.overhead in
     (32768 + o) * c.loop-i.i + length c.clear-p.result.now + o ≤ length c.loop-i.out = let o = c.sizes_of-z.result.overhead in
     let n = length c.args.cleartext.now in
     omega (arith, chunk_within o n c.chunks-k.result c.loop-i.i c.chunks-k.ensures (omega arith), c.clear-p.ensures.1, (sized).1, c.loop-i.invariant.1) in
@@ -135,15 +122,13 @@ slice_bounds-seal_chunk-start c =
 
 pub slice_bounds-seal_chunk-end : goal.slice_bounds-seal_chunk-end
 slice_bounds-seal_chunk-end c =
-    let sized : →
-    let x = c.args in
+    let sized : let x = c.args in
     let z = c.sizes_of-z.result in
     (length x.nonces.now ≡ z.nonce * c.chunks-k.result) × (length x.out.now ≡ length x.cleartext.now + z.overhead * c.chunks-k.result) = let n = length c.args.cleartext.now in
     let e = sym c.sizes_of-z.ensures in
     let k = sym c.chunks-k.ensures in
     (c.requires.header_nonce_len.1 ∙ ap₂ (λ (z : Sizes) (m : ℕ). z.nonce * m) e k, c.requires.header_nonce_len.2 ∙ ap₂ (λ (z : Sizes) (m : ℕ). n + z.overhead * m) e k) in
-    let ends : →
-    let o = c.sizes_of-z.result.overhead in
+    let ends : let o = c.sizes_of-z.result.overhead in
     (32768 + o) * c.loop-i.i + length c.clear-p.result.now + o ≤ length c.loop-i.out = let o = c.sizes_of-z.result.overhead in
     let n = length c.args.cleartext.now in
     omega (arith, chunk_within o n c.chunks-k.result c.loop-i.i c.chunks-k.ensures (omega arith), c.clear-p.ensures.1, (sized).1, c.loop-i.invariant.1) in
@@ -151,15 +136,13 @@ slice_bounds-seal_chunk-end c =
 
 pub seal_chunk-requires : goal.seal_chunk-requires
 seal_chunk-requires c =
-    let sized : →
-    let x = c.args in
+    let sized : let x = c.args in
     let z = c.sizes_of-z.result in
     (length x.nonces.now ≡ z.nonce * c.chunks-k.result) × (length x.out.now ≡ length x.cleartext.now + z.overhead * c.chunks-k.result) = let n = length c.args.cleartext.now in
     let e = sym c.sizes_of-z.ensures in
     let k = sym c.chunks-k.ensures in
     (c.requires.header_nonce_len.1 ∙ ap₂ (λ (z : Sizes) (m : ℕ). z.nonce * m) e k, c.requires.header_nonce_len.2 ∙ ap₂ (λ (z : Sizes) (m : ℕ). n + z.overhead * m) e k) in
-    let ends : →
-    let o = c.sizes_of-z.result.overhead in
+    let ends : let o = c.sizes_of-z.result.overhead in
     (32768 + o) * c.loop-i.i + length c.clear-p.result.now + o ≤ length c.loop-i.out = let o = c.sizes_of-z.result.overhead in
     let n = length c.args.cleartext.now in
     omega (arith, chunk_within o n c.chunks-k.result c.loop-i.i c.chunks-k.ensures (omega arith), c.clear-p.ensures.1, (sized).1, c.loop-i.invariant.1) in
@@ -170,15 +153,13 @@ seal_chunk-requires c =
 
 pub loop-i-preserved : goal.loop-i-preserved
 loop-i-preserved c =
-    let sized : →
-    let x = c.args in
+    let sized : let x = c.args in
     let z = c.sizes_of-z.result in
     (length x.nonces.now ≡ z.nonce * c.chunks-k.result) × (length x.out.now ≡ length x.cleartext.now + z.overhead * c.chunks-k.result) = let n = length c.args.cleartext.now in
     let e = sym c.sizes_of-z.ensures in
     let k = sym c.chunks-k.ensures in
     (c.requires.header_nonce_len.1 ∙ ap₂ (λ (z : Sizes) (m : ℕ). z.nonce * m) e k, c.requires.header_nonce_len.2 ∙ ap₂ (λ (z : Sizes) (m : ℕ). n + z.overhead * m) e k) in
-    let ends : →
-    let o = c.sizes_of-z.result.overhead in
+    let ends : let o = c.sizes_of-z.result.overhead in
     (32768 + o) * c.loop-i.i + length c.clear-p.result.now + o ≤ length c.loop-i.out = let o = c.sizes_of-z.result.overhead in
     let n = length c.args.cleartext.now in
     omega (arith, chunk_within o n c.chunks-k.result c.loop-i.i c.chunks-k.ensures (omega arith), c.clear-p.ensures.1, (sized).1, c.loop-i.invariant.1) in
@@ -191,7 +172,7 @@ loop-i-preserved c =
     let k = c.chunks-k.ensures in
     let lp = c.clear-p.ensures.1 in
     let whole = c.out-1.given.1 in
-    let seal = sealed_under x.combo (cipher 14 x.w.now) x.mac.now x.header-nonce.now in
+    let seal = sealed_under x.combo (cipher 14 x.w.now) x.mac.now x.header_nonce.now in
     let d = add-mul 32768 z.overhead i in
     let start : min (32768 * i) n + z.overhead * i ≡ a = omega arith in
     let end : min (32768 * (i + 1)) n + z.overhead * (i + 1) ≡ e = omega arith in
@@ -209,8 +190,7 @@ loop-i-preserved c =
 
 pub returns : goal.returns
 returns c =
-    let sized : →
-    let x = c.args in
+    let sized : let x = c.args in
     let z = c.sizes_of-z.result in
     (length x.nonces.now ≡ z.nonce * c.chunks-k.result) × (length x.out.now ≡ length x.cleartext.now + z.overhead * c.chunks-k.result) = let n = length c.args.cleartext.now in
     let e = sym c.sizes_of-z.ensures in
@@ -221,7 +201,7 @@ returns c =
     let z = c.sizes_of-z in
     let n = length x.cleartext.now in
     let k = c.chunks-k.result in
-    let seal = sealed_under x.combo (cipher 14 x.w.now) x.mac.now x.header-nonce.now in
+    let seal = sealed_under x.combo (cipher 14 x.w.now) x.mac.now x.header_nonce.now in
     let m : i ≡ k = omega arith in
     let b = take_all (min (32768 * i) n + z.result.overhead * i) c.loop-i.out (omega (arith, (sized).1, ap (λ (j : ℕ). z.result.overhead * j) m, c.loop-i.invariant.1)) in
     let r = chunks_none (sizes_in z.result) seal k i x.nonces.now x.cleartext.now (omega arith) in

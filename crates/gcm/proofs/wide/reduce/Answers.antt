@@ -8,8 +8,7 @@ use Rattle.gcm.proofs.wide.reduce.Goals as goal
 
 pub returns : goal.returns
 returns c =
-    let small : →
-    let z = c.args.z in
+    let small : let z = c.args.z in
     let f = c.fold-f.result in
     (z.b < 2 ^ 64) × (z.c < 2 ^ 64) × (z.d < 2 ^ 64) × (f.hi < 2 ^ 64) × (f.lo < 2 ^ 64) = (search rules, search rules, search rules, search rules, search rules) in
     let z = c.args.z in

@@ -19,7 +19,7 @@ pub returns-then-decoded_length-ne32 : goal.returns-then-decoded_length-ne32
 returns-then-decoded_length-ne32 c =
     let size : length (decoded false c.args.segment.now) ≡ c.decoded_length.result = decoded-size c.args.segment.now ∙ sym c.decoded_length.ensures in
     let k = c.args in
-    sym (same_not _ _ λ e. c.if-decoded_length-ne32.true (sym (size) ∙ sym (ap length e) ∙ (mac-bytes k.raw-key.now k.signed.now).0))
+    sym (same_not _ _ λ e. c.if-decoded_length-ne32.true (sym (size) ∙ sym (ap length e) ∙ (mac-bytes k.raw_key.now k.signed.now).0))
 
 pub decode-requires : goal.decode-requires
 decode-requires c =
@@ -30,6 +30,6 @@ pub returns : goal.returns
 returns c =
     let size : length (decoded false c.args.segment.now) ≡ c.decoded_length.result = decoded-size c.args.segment.now ∙ sym c.decoded_length.ensures in
     let k = c.args in
-    let m = c.mac-tag.ensures ∙ ap (hmac_sha256 k.raw-key.now) (append-nil k.signed.now) in
+    let m = c.mac-tag.ensures ∙ ap (hmac_sha256 k.raw_key.now) (append-nil k.signed.now) in
     let g = c.decode.ensures ∙ placed_all (decoded false k.segment.now) _ (omega (arith, size, c.if-decoded_length-ne32.false)) in
     c.equal.ensures ∙ ap₂ same m g

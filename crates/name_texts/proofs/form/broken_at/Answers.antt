@@ -38,8 +38,7 @@ slice_bounds-whole_stem-end c =
   where
     ends : (a b r : ℕ) → ((a ≤ b → r ≡ a) × (b ≤ a → r ≡ b)) → (r ≤ a) × (r ≤ b)
     ends a b r e = ⊎_elim (λ h. let q = e.0 h in (omega arith, omega arith)) (λ h. let q = e.1 (omega arith) in (omega arith, omega arith)) (le_or_lt a b) in
-    let stopped : →
-    let x = c.args in
+    let stopped : let x = c.args in
     c.stop_from-j.result ≡ stop true 17 (stem_allows x.most) x.text.now = let x = c.args in
     let s = start in
     c.stop_from-j.ensures ∙ walked x.most c.stem_limit-limit.result c.stem_limit-limit.ensures x.text.now x.n c.requires.leading c.lesser-from.result s.0 s.1 in
@@ -53,8 +52,7 @@ whole_stem-requires c =
   where
     ends : (a b r : ℕ) → ((a ≤ b → r ≡ a) × (b ≤ a → r ≡ b)) → (r ≤ a) × (r ≤ b)
     ends a b r e = ⊎_elim (λ h. let q = e.0 h in (omega arith, omega arith)) (λ h. let q = e.1 (omega arith) in (omega arith, omega arith)) (le_or_lt a b) in
-    let stopped : →
-    let x = c.args in
+    let stopped : let x = c.args in
     c.stop_from-j.result ≡ stop true 17 (stem_allows x.most) x.text.now = let x = c.args in
     let s = start in
     c.stop_from-j.ensures ∙ walked x.most c.stem_limit-limit.result c.stem_limit-limit.ensures x.text.now x.n c.requires.leading c.lesser-from.result s.0 s.1 in
@@ -69,8 +67,7 @@ returns-then-not-whole_stem c =
   where
     ends : (a b r : ℕ) → ((a ≤ b → r ≡ a) × (b ≤ a → r ≡ b)) → (r ≤ a) × (r ≤ b)
     ends a b r e = ⊎_elim (λ h. let q = e.0 h in (omega arith, omega arith)) (λ h. let q = e.1 (omega arith) in (omega arith, omega arith)) (le_or_lt a b) in
-    let stopped : →
-    let x = c.args in
+    let stopped : let x = c.args in
     c.stop_from-j.result ≡ stop true 17 (stem_allows x.most) x.text.now = let x = c.args in
     let s = start in
     c.stop_from-j.ensures ∙ walked x.most c.stem_limit-limit.result c.stem_limit-limit.ensures x.text.now x.n c.requires.leading c.lesser-from.result s.0 s.1 in
@@ -83,8 +80,7 @@ slice_bounds-common-count c =
   where
     ends : (a b r : ℕ) → ((a ≤ b → r ≡ a) × (b ≤ a → r ≡ b)) → (r ≤ a) × (r ≤ b)
     ends a b r e = ⊎_elim (λ h. let q = e.0 h in (omega arith, omega arith)) (λ h. let q = e.1 (omega arith) in (omega arith, omega arith)) (le_or_lt a b) in
-    let stopped : →
-    let x = c.args in
+    let stopped : let x = c.args in
     c.stop_from-j.result ≡ stop true 17 (stem_allows x.most) x.text.now = let x = c.args in
     let s = start in
     c.stop_from-j.ensures ∙ walked x.most c.stem_limit-limit.result c.stem_limit-limit.ensures x.text.now x.n c.requires.leading c.lesser-from.result s.0 s.1 in
@@ -98,8 +94,7 @@ slice_bounds-common-start c =
   where
     ends : (a b r : ℕ) → ((a ≤ b → r ≡ a) × (b ≤ a → r ≡ b)) → (r ≤ a) × (r ≤ b)
     ends a b r e = ⊎_elim (λ h. let q = e.0 h in (omega arith, omega arith)) (λ h. let q = e.1 (omega arith) in (omega arith, omega arith)) (le_or_lt a b) in
-    let stopped : →
-    let x = c.args in
+    let stopped : let x = c.args in
     c.stop_from-j.result ≡ stop true 17 (stem_allows x.most) x.text.now = let x = c.args in
     let s = start in
     c.stop_from-j.ensures ∙ walked x.most c.stem_limit-limit.result c.stem_limit-limit.ensures x.text.now x.n c.requires.leading c.lesser-from.result s.0 s.1 in
@@ -113,8 +108,7 @@ overflow_add-result c =
   where
     ends : (a b r : ℕ) → ((a ≤ b → r ≡ a) × (b ≤ a → r ≡ b)) → (r ≤ a) × (r ≤ b)
     ends a b r e = ⊎_elim (λ h. let q = e.0 h in (omega arith, omega arith)) (λ h. let q = e.1 (omega arith) in (omega arith, omega arith)) (le_or_lt a b) in
-    let stopped : →
-    let x = c.args in
+    let stopped : let x = c.args in
     c.stop_from-j.result ≡ stop true 17 (stem_allows x.most) x.text.now = let x = c.args in
     let s = start in
     c.stop_from-j.ensures ∙ walked x.most c.stem_limit-limit.result c.stem_limit-limit.ensures x.text.now x.n c.requires.leading c.lesser-from.result s.0 s.1 in
@@ -132,8 +126,7 @@ returns c =
   where
     ends : (a b r : ℕ) → ((a ≤ b → r ≡ a) × (b ≤ a → r ≡ b)) → (r ≤ a) × (r ≤ b)
     ends a b r e = ⊎_elim (λ h. let q = e.0 h in (omega arith, omega arith)) (λ h. let q = e.1 (omega arith) in (omega arith, omega arith)) (le_or_lt a b) in
-    let stopped : →
-    let x = c.args in
+    let stopped : let x = c.args in
     c.stop_from-j.result ≡ stop true 17 (stem_allows x.most) x.text.now = let x = c.args in
     let s = start in
     c.stop_from-j.ensures ∙ walked x.most c.stem_limit-limit.result c.stem_limit-limit.ensures x.text.now x.n c.requires.leading c.lesser-from.result s.0 s.1 in

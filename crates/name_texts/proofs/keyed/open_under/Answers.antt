@@ -23,8 +23,7 @@ expand-requires-2 c = ((master_sizes _ _ c.requires.mac_value).0, search rules)
 
 pub slice_bounds-open_into-end-4 : goal.slice_bounds-open_into-end-4
 slice_bounds-open_into-end-4 c =
-    let room : →
-    let x = c.args in
+    let room : let x = c.args in
     length (take (length x.sealed.now - 16) x.out.now) ≡ length x.sealed.now - 16 = let x = c.args in
     let p = c.requires.iv_size_in_bounds in
     length-take-le (length x.sealed.now - 16) x.out.now (omega (arith, p.0, p.2)) in
@@ -32,8 +31,7 @@ slice_bounds-open_into-end-4 c =
 
 pub open_into-requires : goal.open_into-requires
 open_into-requires c =
-    let room : →
-    let x = c.args in
+    let room : let x = c.args in
     length (take (length x.sealed.now - 16) x.out.now) ≡ length x.sealed.now - 16 = let x = c.args in
     let p = c.requires.iv_size_in_bounds in
     length-take-le (length x.sealed.now - 16) x.out.now (omega (arith, p.0, p.2)) in

@@ -23,15 +23,13 @@ expand-requires-2 c = ((master_sizes _ _ c.requires.mac_value).0, search rules)
 
 pub slice_bounds-seal-end-4 : goal.slice_bounds-seal-end-4
 slice_bounds-seal-end-4 c =
-    let room : →
-    let x = c.args in
+    let room : let x = c.args in
     length (take (length x.cleartext.now + 16) x.out.now) ≡ length x.cleartext.now + 16 = let x = c.args in length-take-le (length x.cleartext.now + 16) x.out.now c.requires.cleartext_len_bound.1 in
     sym (room)
 
 pub seal-requires : goal.seal-requires
 seal-requires c =
-    let room : →
-    let x = c.args in
+    let room : let x = c.args in
     length (take (length x.cleartext.now + 16) x.out.now) ≡ length x.cleartext.now + 16 = let x = c.args in length-take-le (length x.cleartext.now + 16) x.out.now c.requires.cleartext_len_bound.1 in
     record { t_value = c.table-t.ensures; in_bounds = (search rules, search rules); out_len = room }
 

@@ -24,8 +24,7 @@ sealed-length enc mac id = length-seal (aes 8 mac) (aes 8 enc) (length-aes 8 mac
 pub slice_bounds-digest-end : goal.slice_bounds-digest-end
 unfolding sealed_id
 slice_bounds-digest-end c =
-    let sealed : →
-    let x = c.args in
+    let sealed : let x = c.args in
     take (length x.id.now + 16) c.seal_under.new.out ≡ sealed_id x.enc.now x.mac.now x.id.now = let x = c.args in
     let n = length x.id.now + 16 in
     let s = sealed_id x.enc.now x.mac.now x.id.now in
@@ -35,8 +34,7 @@ slice_bounds-digest-end c =
 pub returns : goal.returns
 unfolding id_hash sealed_id
 returns c =
-    let sealed : →
-    let x = c.args in
+    let sealed : let x = c.args in
     take (length x.id.now + 16) c.seal_under.new.out ≡ sealed_id x.enc.now x.mac.now x.id.now = let x = c.args in
     let n = length x.id.now + 16 in
     let s = sealed_id x.enc.now x.mac.now x.id.now in

@@ -45,8 +45,7 @@ slice_bounds-open_under-end c =
     let sealed-size : length (sealed_of c.args.text.now) ≡ c.args.n + 16 = let p = c.requires.text_value in
     let f = text_facts c.args.text.now p.0 in
     omega (arith, f.low, p.1) in
-    let sealed : →
-    let x = c.args in
+    let sealed : let x = c.args in
     take (x.n + 16) c.decode.new.out ≡ sealed_of x.text.now = let x = c.args in
     ap (take (x.n + 16)) c.decode.ensures ∙ front (sealed_of x.text.now) (replicate (name_limit + iv_size) 0) (x.n + 16) (sealed-size) in
     sym (ap length (sealed) ∙ sealed-size)
@@ -57,8 +56,7 @@ open_under-requires c =
     let sealed-size : length (sealed_of c.args.text.now) ≡ c.args.n + 16 = let p = c.requires.text_value in
     let f = text_facts c.args.text.now p.0 in
     omega (arith, f.low, p.1) in
-    let sealed : →
-    let x = c.args in
+    let sealed : let x = c.args in
     take (x.n + 16) c.decode.new.out ≡ sealed_of x.text.now = let x = c.args in
     ap (take (x.n + 16)) c.decode.ensures ∙ front (sealed_of x.text.now) (replicate (name_limit + iv_size) 0) (x.n + 16) (sealed-size) in
     let l = ap length (sealed) ∙ sealed-size in
@@ -71,16 +69,13 @@ returns-then-not-open_under c =
     let sealed-size : length (sealed_of c.args.text.now) ≡ c.args.n + 16 = let p = c.requires.text_value in
     let f = text_facts c.args.text.now p.0 in
     omega (arith, f.low, p.1) in
-    let sealed : →
-    let x = c.args in
+    let sealed : let x = c.args in
     take (x.n + 16) c.decode.new.out ≡ sealed_of x.text.now = let x = c.args in
     ap (take (x.n + 16)) c.decode.ensures ∙ front (sealed_of x.text.now) (replicate (name_limit + iv_size) 0) (x.n + 16) (sealed-size) in
-    let matches : →
-    let x = c.args in
+    let matches : let x = c.args in
     c.open_under.result ≡ name_good x.enc.now x.mac.now x.id.now x.text.now = let x = c.args in
     c.open_under.ensures.value ∙ ap (siv.good (aes 8 x.mac.now) (aes 8 x.enc.now) (x.id.now ∷ [])) (sealed) in
-    let rows : →
-    let x = c.args in
+    let rows : let x = c.args in
     EndsExactly (open_text_rows x.enc.now x.mac.now x.id.now x.text.now) (name_length x.text.now ∷ [])
     (filled (name_of x.enc.now x.text.now) (name_length x.text.now) x.out.now) x.out.now (open_text x.enc.now x.mac.now x.id.now x.text.now x.out.now) = let x = c.args in text_ends x.enc.now x.mac.now x.id.now x.text.now x.out.now in
     sym (((rows).0 0 (omega arith)).1 (ap not (sym (matches)) ∙ c.if-not-open_under.true-raw))
@@ -97,18 +92,15 @@ slice_bounds-name-end c =
 pub slice_bounds-proper_text-end : goal.slice_bounds-proper_text-end
 unfolding name_length sealed_of name_of
 slice_bounds-proper_text-end c =
-    let name-size : →
-    let x = c.args in
+    let name-size : let x = c.args in
     length (name_of x.enc.now x.text.now) ≡ x.n = let x = c.args in length-name x.enc.now x.text.now ∙ sym c.requires.text_value.1 in
     let sealed-size : length (sealed_of c.args.text.now) ≡ c.args.n + 16 = let p = c.requires.text_value in
     let f = text_facts c.args.text.now p.0 in
     omega (arith, f.low, p.1) in
-    let sealed : →
-    let x = c.args in
+    let sealed : let x = c.args in
     take (x.n + 16) c.decode.new.out ≡ sealed_of x.text.now = let x = c.args in
     ap (take (x.n + 16)) c.decode.ensures ∙ front (sealed_of x.text.now) (replicate (name_limit + iv_size) 0) (x.n + 16) (sealed-size) in
-    let name : →
-    let x = c.args in
+    let name : let x = c.args in
     take x.n c.open_under.new.out ≡ name_of x.enc.now x.text.now = let x = c.args in
     ap (take x.n) (c.open_under.ensures.out_after ∙ ap (λ (z : List ℕ). placed (siv.plain (aes 8 x.enc.now) z) 0 (replicate name_limit 0)) (sealed))
     ∙ front (name_of x.enc.now x.text.now) (replicate name_limit 0) x.n (name-size) in
@@ -117,34 +109,27 @@ slice_bounds-proper_text-end c =
 pub returns-then-not-proper_text : goal.returns-then-not-proper_text
 unfolding open_text_rows name_length sealed_of name_good name_of
 returns-then-not-proper_text c =
-    let rows : →
-    let x = c.args in
+    let rows : let x = c.args in
     EndsExactly (open_text_rows x.enc.now x.mac.now x.id.now x.text.now) (name_length x.text.now ∷ [])
     (filled (name_of x.enc.now x.text.now) (name_length x.text.now) x.out.now) x.out.now (open_text x.enc.now x.mac.now x.id.now x.text.now x.out.now) = let x = c.args in text_ends x.enc.now x.mac.now x.id.now x.text.now x.out.now in
     let sealed-size : length (sealed_of c.args.text.now) ≡ c.args.n + 16 = let p = c.requires.text_value in
     let f = text_facts c.args.text.now p.0 in
     omega (arith, f.low, p.1) in
-    let sealed : →
-    let x = c.args in
+    let sealed : let x = c.args in
     take (x.n + 16) c.decode.new.out ≡ sealed_of x.text.now = let x = c.args in
     ap (take (x.n + 16)) c.decode.ensures ∙ front (sealed_of x.text.now) (replicate (name_limit + iv_size) 0) (x.n + 16) (sealed-size) in
-    let matches : →
-    let x = c.args in
+    let matches : let x = c.args in
     c.open_under.result ≡ name_good x.enc.now x.mac.now x.id.now x.text.now = let x = c.args in
     c.open_under.ensures.value ∙ ap (siv.good (aes 8 x.mac.now) (aes 8 x.enc.now) (x.id.now ∷ [])) (sealed) in
-    let good : →
-    let x = c.args in
+    let good : let x = c.args in
     not (name_good x.enc.now x.mac.now x.id.now x.text.now) ≡ false = ap not (sym (matches) ∙ not-false _ c.if-not-open_under.false-raw) in
-    let name-size : →
-    let x = c.args in
+    let name-size : let x = c.args in
     length (name_of x.enc.now x.text.now) ≡ x.n = let x = c.args in length-name x.enc.now x.text.now ∙ sym c.requires.text_value.1 in
-    let name : →
-    let x = c.args in
+    let name : let x = c.args in
     take x.n c.open_under.new.out ≡ name_of x.enc.now x.text.now = let x = c.args in
     ap (take x.n) (c.open_under.ensures.out_after ∙ ap (λ (z : List ℕ). placed (siv.plain (aes 8 x.enc.now) z) 0 (replicate name_limit 0)) (sealed))
     ∙ front (name_of x.enc.now x.text.now) (replicate name_limit 0) x.n (name-size) in
-    let told : →
-    let x = c.args in
+    let told : let x = c.args in
     c.proper_text.result ≡ proper_text (name_of x.enc.now x.text.now) = c.proper_text.ensures ∙ ap proper_text (name) in
     sym (((rows).0 1 (omega arith)).1 (good, ap not (sym (told)) ∙ c.if-not-proper_text.true-raw))
 
@@ -160,18 +145,15 @@ slice_bounds-name-end-2 c =
 pub slice_bounds-copy_at-end : goal.slice_bounds-copy_at-end
 unfolding name_length sealed_of name_of
 slice_bounds-copy_at-end c =
-    let name-size : →
-    let x = c.args in
+    let name-size : let x = c.args in
     length (name_of x.enc.now x.text.now) ≡ x.n = let x = c.args in length-name x.enc.now x.text.now ∙ sym c.requires.text_value.1 in
     let sealed-size : length (sealed_of c.args.text.now) ≡ c.args.n + 16 = let p = c.requires.text_value in
     let f = text_facts c.args.text.now p.0 in
     omega (arith, f.low, p.1) in
-    let sealed : →
-    let x = c.args in
+    let sealed : let x = c.args in
     take (x.n + 16) c.decode.new.out ≡ sealed_of x.text.now = let x = c.args in
     ap (take (x.n + 16)) c.decode.ensures ∙ front (sealed_of x.text.now) (replicate (name_limit + iv_size) 0) (x.n + 16) (sealed-size) in
-    let name : →
-    let x = c.args in
+    let name : let x = c.args in
     take x.n c.open_under.new.out ≡ name_of x.enc.now x.text.now = let x = c.args in
     ap (take x.n) (c.open_under.ensures.out_after ∙ ap (λ (z : List ℕ). placed (siv.plain (aes 8 x.enc.now) z) 0 (replicate name_limit 0)) (sealed))
     ∙ front (name_of x.enc.now x.text.now) (replicate name_limit 0) x.n (name-size) in
@@ -180,18 +162,15 @@ slice_bounds-copy_at-end c =
 pub copy_at-requires : goal.copy_at-requires
 unfolding name_length sealed_of name_of
 copy_at-requires c =
-    let name-size : →
-    let x = c.args in
+    let name-size : let x = c.args in
     length (name_of x.enc.now x.text.now) ≡ x.n = let x = c.args in length-name x.enc.now x.text.now ∙ sym c.requires.text_value.1 in
     let sealed-size : length (sealed_of c.args.text.now) ≡ c.args.n + 16 = let p = c.requires.text_value in
     let f = text_facts c.args.text.now p.0 in
     omega (arith, f.low, p.1) in
-    let sealed : →
-    let x = c.args in
+    let sealed : let x = c.args in
     take (x.n + 16) c.decode.new.out ≡ sealed_of x.text.now = let x = c.args in
     ap (take (x.n + 16)) c.decode.ensures ∙ front (sealed_of x.text.now) (replicate (name_limit + iv_size) 0) (x.n + 16) (sealed-size) in
-    let name : →
-    let x = c.args in
+    let name : let x = c.args in
     take x.n c.open_under.new.out ≡ name_of x.enc.now x.text.now = let x = c.args in
     ap (take x.n) (c.open_under.ensures.out_after ∙ ap (λ (z : List ℕ). placed (siv.plain (aes 8 x.enc.now) z) 0 (replicate name_limit 0)) (sealed))
     ∙ front (name_of x.enc.now x.text.now) (replicate name_limit 0) x.n (name-size) in
@@ -203,31 +182,24 @@ returns c =
     let sealed-size : length (sealed_of c.args.text.now) ≡ c.args.n + 16 = let p = c.requires.text_value in
     let f = text_facts c.args.text.now p.0 in
     omega (arith, f.low, p.1) in
-    let sealed : →
-    let x = c.args in
+    let sealed : let x = c.args in
     take (x.n + 16) c.decode.new.out ≡ sealed_of x.text.now = let x = c.args in
     ap (take (x.n + 16)) c.decode.ensures ∙ front (sealed_of x.text.now) (replicate (name_limit + iv_size) 0) (x.n + 16) (sealed-size) in
-    let name-size : →
-    let x = c.args in
+    let name-size : let x = c.args in
     length (name_of x.enc.now x.text.now) ≡ x.n = let x = c.args in length-name x.enc.now x.text.now ∙ sym c.requires.text_value.1 in
-    let name : →
-    let x = c.args in
+    let name : let x = c.args in
     take x.n c.open_under.new.out ≡ name_of x.enc.now x.text.now = let x = c.args in
     ap (take x.n) (c.open_under.ensures.out_after ∙ ap (λ (z : List ℕ). placed (siv.plain (aes 8 x.enc.now) z) 0 (replicate name_limit 0)) (sealed))
     ∙ front (name_of x.enc.now x.text.now) (replicate name_limit 0) x.n (name-size) in
-    let rows : →
-    let x = c.args in
+    let rows : let x = c.args in
     EndsExactly (open_text_rows x.enc.now x.mac.now x.id.now x.text.now) (name_length x.text.now ∷ [])
     (filled (name_of x.enc.now x.text.now) (name_length x.text.now) x.out.now) x.out.now (open_text x.enc.now x.mac.now x.id.now x.text.now x.out.now) = let x = c.args in text_ends x.enc.now x.mac.now x.id.now x.text.now x.out.now in
-    let matches : →
-    let x = c.args in
+    let matches : let x = c.args in
     c.open_under.result ≡ name_good x.enc.now x.mac.now x.id.now x.text.now = let x = c.args in
     c.open_under.ensures.value ∙ ap (siv.good (aes 8 x.mac.now) (aes 8 x.enc.now) (x.id.now ∷ [])) (sealed) in
-    let good : →
-    let x = c.args in
+    let good : let x = c.args in
     not (name_good x.enc.now x.mac.now x.id.now x.text.now) ≡ false = ap not (sym (matches) ∙ not-false _ c.if-not-open_under.false-raw) in
-    let told : →
-    let x = c.args in
+    let told : let x = c.args in
     c.proper_text.result ≡ proper_text (name_of x.enc.now x.text.now) = c.proper_text.ensures ∙ ap proper_text (name) in
     let x = c.args in
     let t = x.text.now in

@@ -18,8 +18,7 @@ use Rattle.name_texts.proofs.texts.write_full.Goals as goal
 pub slice_bounds-encode-end : goal.slice_bounds-encode-end
 unfolding sealed_name
 slice_bounds-encode-end c =
-    let sealed : →
-    let x = c.args in
+    let sealed : let x = c.args in
     take (length x.name.now + 16) c.seal_under.new.out ≡ sealed_name x.enc.now x.mac.now x.id.now x.name.now = let x = c.args in
     let n = length x.name.now + 16 in
     let s = sealed_name x.enc.now x.mac.now x.id.now x.name.now in
@@ -29,8 +28,7 @@ slice_bounds-encode-end c =
 pub encode-requires : goal.encode-requires
 unfolding sealed_name
 encode-requires c =
-    let sealed : →
-    let x = c.args in
+    let sealed : let x = c.args in
     take (length x.name.now + 16) c.seal_under.new.out ≡ sealed_name x.enc.now x.mac.now x.id.now x.name.now = let x = c.args in
     let n = length x.name.now + 16 in
     let s = sealed_name x.enc.now x.mac.now x.id.now x.name.now in
@@ -43,8 +41,7 @@ encode-requires c =
 pub returns : goal.returns
 unfolding full_name sealed_name
 returns c =
-    let sealed : →
-    let x = c.args in
+    let sealed : let x = c.args in
     take (length x.name.now + 16) c.seal_under.new.out ≡ sealed_name x.enc.now x.mac.now x.id.now x.name.now = let x = c.args in
     let n = length x.name.now + 16 in
     let s = sealed_name x.enc.now x.mac.now x.id.now x.name.now in

@@ -29,26 +29,22 @@ returns-then-not-gcm_fits c = refused _ _ _ (rw (le-leb _ _ c.if-sealed-lt16.fal
 pub returns-then-out-n : goal.returns-then-out-n
 unfolding gcm_open
 returns-then-out-n c =
-    let fits : →
-    let x = c.args in
+    let fits : let x = c.args in
     gcm_fits x.key.now x.nonce.now x.aad.now (length x.sealed.now - 16) ≡ true = sym c.gcm_fits.ensures ∙ not-false _ c.if-not-gcm_fits.false-raw in
     refused _ _ _ (rw (le-leb _ _ c.if-sealed-lt16.false, fits, lt-leb _ _ c.if-out-n.true))
 
 pub slice_bounds-open_under-end-2 : goal.slice_bounds-open_under-end-2
 slice_bounds-open_under-end-2 c =
-    let room : →
-    let x = c.args in
+    let room : let x = c.args in
     length (take (length x.sealed.now - 16) x.out.now) ≡ length x.sealed.now - 16 = let x = c.args in
     length-take-le (length x.sealed.now - 16) x.out.now c.if-out-n.false in
     sym (room)
 
 pub open_under-requires : goal.open_under-requires
 open_under-requires c =
-    let fits : →
-    let x = c.args in
+    let fits : let x = c.args in
     gcm_fits x.key.now x.nonce.now x.aad.now (length x.sealed.now - 16) ≡ true = sym c.gcm_fits.ensures ∙ not-false _ c.if-not-gcm_fits.false-raw in
-    let room : →
-    let x = c.args in
+    let room : let x = c.args in
     length (take (length x.sealed.now - 16) x.out.now) ≡ length x.sealed.now - 16 = let x = c.args in
     length-take-le (length x.sealed.now - 16) x.out.now c.if-out-n.false in
     let f = fits_facts _ _ _ _ (fits) in record { key_len = (f.0, f.1, f.2, omega (arith, f.3)); sealed_len = omega (arith, room, c.if-sealed-lt16.false) }
@@ -56,8 +52,7 @@ open_under-requires c =
 pub returns-then-open_under : goal.returns-then-open_under
 unfolding gcm_open
 returns-then-open_under c =
-    let fits : →
-    let x = c.args in
+    let fits : let x = c.args in
     gcm_fits x.key.now x.nonce.now x.aad.now (length x.sealed.now - 16) ≡ true = sym c.gcm_fits.ensures ∙ not-false _ c.if-not-gcm_fits.false-raw in
     let u = c.open_under in
     let x = c.args in
@@ -72,8 +67,7 @@ returns-then-open_under c =
 pub returns : goal.returns
 unfolding gcm_open
 returns c =
-    let fits : →
-    let x = c.args in
+    let fits : let x = c.args in
     gcm_fits x.key.now x.nonce.now x.aad.now (length x.sealed.now - 16) ≡ true = sym c.gcm_fits.ensures ∙ not-false _ c.if-not-gcm_fits.false-raw in
     let u = c.open_under in
     let x = c.args in

@@ -24,8 +24,7 @@ returns-then-not-gcm_fits c = refused _ _ _ (rw (sym c.gcm_fits.ensures ∙ not-
 pub returns-then-out-n : goal.returns-then-out-n
 unfolding gcm_seal
 returns-then-out-n c =
-    let fits : →
-    let x = c.args in
+    let fits : let x = c.args in
     gcm_fits x.key.now x.nonce.now x.aad.now (length x.cleartext.now) ≡ true = sym c.gcm_fits.ensures ∙ not-false _ c.if-not-gcm_fits.false-raw in
     refused _ _ _ (rw (fits, lt-leb _ _ c.if-out-n.true))
 
@@ -36,16 +35,14 @@ slice_bounds-seal_under-end-2 c =
 
 pub seal_under-requires : goal.seal_under-requires
 seal_under-requires c =
-    let fits : →
-    let x = c.args in
+    let fits : let x = c.args in
     gcm_fits x.key.now x.nonce.now x.aad.now (length x.cleartext.now) ≡ true = sym c.gcm_fits.ensures ∙ not-false _ c.if-not-gcm_fits.false-raw in
     let x = c.args in record { key_len = fits_facts _ _ _ _ (fits); out_len = length-take-le (length x.cleartext.now + 16) x.out.now c.if-out-n.false }
 
 pub returns : goal.returns
 unfolding gcm_seal
 returns c =
-    let fits : →
-    let x = c.args in
+    let fits : let x = c.args in
     gcm_fits x.key.now x.nonce.now x.aad.now (length x.cleartext.now) ≡ true = sym c.gcm_fits.ensures ∙ not-false _ c.if-not-gcm_fits.false-raw in
     let x = c.args in
     let s = spec.seal (aes 8 x.key.now) x.nonce.now x.aad.now x.cleartext.now in

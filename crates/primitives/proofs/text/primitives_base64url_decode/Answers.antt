@@ -35,8 +35,7 @@ module _ (text : List ℕ) (padded : ℕ) (d : List ℕ) (n at : ℕ) where
 
 pub returns-then-out-n : goal.returns-then-out-n
 returns-then-out-n c =
-    let facts : →
-    let x = c.args in
+    let facts : let x = c.args in
     (spec.accepted (is_set x.padded) x.text.now ≡ true) × (length (spec.decoded (is_set x.padded) x.text.now) ≡ c.in-Accepted.n) = let x = c.args in
     measured_is_accepted (is_set x.padded) x.text.now c.in-Accepted.n (sym c.check.ensures ∙ c.in-Accepted.is) in
     let x = c.args in
@@ -45,8 +44,7 @@ returns-then-out-n c =
 
 pub decode-requires : goal.decode-requires
 decode-requires c =
-    let facts : →
-    let x = c.args in
+    let facts : let x = c.args in
     (spec.accepted (is_set x.padded) x.text.now ≡ true) × (length (spec.decoded (is_set x.padded) x.text.now) ≡ c.in-Accepted.n) = let x = c.args in
     measured_is_accepted (is_set x.padded) x.text.now c.in-Accepted.n (sym c.check.ensures ∙ c.in-Accepted.is) in
     let f = facts in record { text_value = f.0; text_in_bounds = omega (arith, f.1, c.if-out-n.false) }
@@ -59,8 +57,7 @@ returns-in-Refused c =
 
 pub returns-else-out-n : goal.returns-else-out-n
 returns-else-out-n c =
-    let facts : →
-    let x = c.args in
+    let facts : let x = c.args in
     (spec.accepted (is_set x.padded) x.text.now ≡ true) × (length (spec.decoded (is_set x.padded) x.text.now) ≡ c.in-Accepted.n) = let x = c.args in
     measured_is_accepted (is_set x.padded) x.text.now c.in-Accepted.n (sym c.check.ensures ∙ c.in-Accepted.is) in
     let x = c.args in

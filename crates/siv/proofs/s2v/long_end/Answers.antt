@@ -41,8 +41,7 @@ xor_end-requires c =
 pub slice_bounds-tail-end-2 : goal.slice_bounds-tail-end-2
 unfolding word_bytes
 slice_bounds-tail-end-2 c =
-    let tail : →
-    let x = c.args in
+    let tail : let x = c.args in
     c.xor_end.new.out ≡ spec.xorend (drop (start x.s.now) x.s.now) (state x.d) = let x = c.args in
     c.xor_end.ensures ∙ ap (λ (l : List ℕ). spec.xorend l (state x.d)) (part-rest x.s.now (length x.s.now) (start x.s.now) refl) in
     let tail-length : length c.xor_end.new.out ≡ rest c.args.s.now = let x = c.args in
@@ -58,32 +57,28 @@ slice_bounds-tail-end-2 c =
 pub slice_bounds-cmac_from-end : goal.slice_bounds-cmac_from-end
 unfolding word_bytes
 slice_bounds-cmac_from-end c =
-    let tail : →
-    let x = c.args in
+    let tail : let x = c.args in
     c.xor_end.new.out ≡ spec.xorend (drop (start x.s.now) x.s.now) (state x.d) = let x = c.args in
     c.xor_end.ensures ∙ ap (λ (l : List ℕ). spec.xorend l (state x.d)) (part-rest x.s.now (length x.s.now) (start x.s.now) refl) in
     let tail-length : length c.xor_end.new.out ≡ rest c.args.s.now = let x = c.args in
     let s = x.s.now in
     let n : length (drop (start s) s) ≡ rest s = length-drop (start s) s in
     ap length (tail) ∙ length-xorend (drop (start s) s) (state x.d) refl (omega (arith, n, c.requires.in_bounds.1)) ∙ n in
-    let front : →
-    let s = c.args.s.now in
+    let front : let s = c.args.s.now in
     take (rest s) (c.xor_end.new.out ++ drop (rest s) (replicate {A = ℕ} 32 0)) ≡ c.xor_end.new.out = take_at c.xor_end.new.out (drop (rest c.args.s.now) (replicate {A = ℕ} 32 0)) _ (tail-length) in
     sym (ap length (front) ∙ tail-length)
 
 pub returns : goal.returns
 unfolding word_bytes
 returns c =
-    let tail : →
-    let x = c.args in
+    let tail : let x = c.args in
     c.xor_end.new.out ≡ spec.xorend (drop (start x.s.now) x.s.now) (state x.d) = let x = c.args in
     c.xor_end.ensures ∙ ap (λ (l : List ℕ). spec.xorend l (state x.d)) (part-rest x.s.now (length x.s.now) (start x.s.now) refl) in
     let tail-length : length c.xor_end.new.out ≡ rest c.args.s.now = let x = c.args in
     let s = x.s.now in
     let n : length (drop (start s) s) ≡ rest s = length-drop (start s) s in
     ap length (tail) ∙ length-xorend (drop (start s) s) (state x.d) refl (omega (arith, n, c.requires.in_bounds.1)) ∙ n in
-    let front : →
-    let s = c.args.s.now in
+    let front : let s = c.args.s.now in
     take (rest s) (c.xor_end.new.out ++ drop (rest s) (replicate {A = ℕ} 32 0)) ≡ c.xor_end.new.out = take_at c.xor_end.new.out (drop (rest c.args.s.now) (replicate {A = ℕ} 32 0)) _ (tail-length) in
     let x = c.args in
     let s = x.s.now in

@@ -15,8 +15,7 @@ use Rattle.siv.proofs.seal.open_into.Goals as goal
 pub returns : goal.returns
 unfolding spec.good spec.plain
 returns c =
-    let text : →
-    let x = c.args in
+    let text : let x = c.args in
     c.crypt_under.new.out ≡ spec.plain (cipher 14 x.enc.now) x.sealed.now = let x = c.args in
     c.crypt_under.ensures
     ∙ ap₂ (spec.crypt (cipher 14 x.enc.now)) c.block_at-v.ensures (part-rest x.sealed.now (length x.sealed.now) 16 refl) in

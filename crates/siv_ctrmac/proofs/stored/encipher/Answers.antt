@@ -24,7 +24,7 @@ returns c =
     let xs = c.copy_at.new.dst in
     let s : state c.block_at.result ≡ n = c.block_at.ensures ∙ take_all 16 n (omega (arith, c.requires.nonce_len)) in
     let d = length-drop 16 xs in
-    let kept = c.copy_at.auto.1.0 in
+    let kept = c.copy_at.auto.dst in
     let l : length (take (length xs - 16) (drop 16 xs)) ≡ length p = ap length (part-rest xs (length xs) 16 refl) ∙ d ∙ omega (arith, kept, c.requires.nonce_len) in
     let f = c.crypt128.ensures
     ∙ ap₂ (λ (a : ℕ) (b : List ℕ). take a (ctr inc128 e b p)) l s

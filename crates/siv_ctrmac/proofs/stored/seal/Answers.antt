@@ -28,4 +28,4 @@ returns c =
     let e = length d - 32 in
     c.put_mac.ensures
     ∙ sealed_front (cipher 14 x.w.now) (hmac_sha256 x.key.now) (x.a.now ++ x.b.now) x.nonce.now x.cleartext.now s.new.out d e
-    (s.auto.1.1.1.1.0 ∙ length-take-le e d (omega arith)) (omega (arith, c.requires.nonce_len)) s.ensures
+    (s.auto.out ∙ length-take-le e d (omega arith)) (omega (arith, c.requires.nonce_len)) s.ensures

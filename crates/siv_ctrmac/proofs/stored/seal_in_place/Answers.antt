@@ -34,4 +34,4 @@ returns c =
     ap (λ (j : ℕ). drop 16 (take j d)) k ∙ ap (drop 16) (take-add 16 (length d - 48) d) ∙ drop_at (take 16 d) (take (length d - 48) (drop 16 d)) 16 (length-take-le 16 d (omega (arith, c.requires.nonce_len))) in
     c.put_mac.ensures
     ∙ sealed_front g (hmac_sha256 x.key.now) (x.a.now ++ x.b.now) n (take (length d - 48) (drop 16 d)) s.new.text d e
-    (s.auto.1.1.1.0 ∙ length-take-le e d (omega arith)) (omega (arith, c.requires.nonce_len)) (s.ensures ∙ ap (λ (t : List ℕ). n ++ ctr inc128 g n t) p)
+    (s.auto.text ∙ length-take-le e d (omega arith)) (omega (arith, c.requires.nonce_len)) (s.ensures ∙ ap (λ (t : List ℕ). n ++ ctr inc128 g n t) p)

@@ -16,5 +16,5 @@ returns-in-Refused c =
     let e = c.in-Refused.is in (
       c.row_number.ensures ∙ sym (ap (λ (a : NameAnswer). number (name_meaning a)) e),
       sym (ap (λ (a : NameAnswer). written_after (name_meaning a) x.written.now) e ∙ (keeps_lengths refusal x.written.now).0),
-      sym (ap (λ (a : NameAnswer). full_length_after (name_meaning a) x.full-length.now) e ∙ (keeps_lengths refusal x.full-length.now).1),
+      sym (ap (λ (a : NameAnswer). full_length_after (name_meaning a) x.full_length.now) e ∙ (keeps_lengths refusal x.full_length.now).1),
     )
