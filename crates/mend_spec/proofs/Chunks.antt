@@ -103,12 +103,12 @@ module _ (C : Codec) (𝓛 : ChunkLaws C) (h : Head) (ok : HeadFits C.sizes h) (
   reseal_length i n c l o =
       let a = 𝓛.chunk_size_lem h i n (patched i from new (plain h i c)) ok l in
       let b = patched-length i from new (plain h i c) in
-      let d = 𝓛.Plain-size h i c in
+      let d = 𝓛.plain_size h i c in
       omega arith
 
   reseal_bytes : Bytes new → (i : ℕ) (n c : List ℕ) → Bytes n → Bytes c → Bytes (reseal i n c)
   unfolding resealed
-  reseal_bytes bn i n c b d = 𝓛.chunk_bytes_lem h i n (patched i from new (plain h i c)) ok b (patched-bytes_below i from new (plain h i c) bn (𝓛.plain-bytes h i c ok d))
+  reseal_bytes bn i n c b d = 𝓛.chunk_bytes h i n (patched i from new (plain h i c)) ok b (patched-bytes_below i from new (plain h i c) bn (𝓛.plain-bytes h i c ok d))
 
   -- the file after chunk i is sealed again with the first nonce
   abbrev step : List ℕ → ℕ → List ℕ → List ℕ

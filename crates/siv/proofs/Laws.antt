@@ -12,7 +12,8 @@ use Rattle.octets.proofs.Bytes.{below_append, below_drop}
 use Rattle.octets.proofs.Equality.{same_self, same_eq}
 use Rattle.ctr.specs.Ctr.{inc128, BlockCipher}
 use Rattle.ctr.proofs.Texts.{length-ctr, ctr_twice, ctr-bytes}
-use Rattle.siv.specs.Cmac.{cmac_from, cmac}
+use Rattle.octets.specs.Xors.{xors}
+use Rattle.siv.specs.Cmac.{cmac_from, cmac, dbl}
 use Rattle.siv.specs.Siv.{s2v_last, s2v_from, s2v, counter_of, crypt, plain, seal, good}
 use Rattle.siv.specs.Statements.{SealedOpens, OpenedWasSealed, Lengths, KeepsBytes}
 
@@ -24,7 +25,7 @@ module _ (mac : List ℕ → List ℕ) (lm : BlockCipher mac) where
   length-s2v_from : (d s : List ℕ) (r : List (List ℕ)) → length (s2v_from mac d s r) ≡ 16
   unfolding s2v_last s2v_from
   length-s2v_from d s [] = length-cmac _
-  length-s2v_from d s (t ∷ r) = length-s2v_from _ t r
+  length-s2v_from d s (t ∷ r) = length-s2v_from (xors (dbl d) (cmac mac s)) t r
 
   pub length-s2v : (ss : List (List ℕ)) → length (s2v mac ss) ≡ 16
   unfolding s2v
@@ -97,7 +98,7 @@ module _ (mac : List ℕ → List ℕ) (bs : (s : List ℕ) → Bytes (mac s)) w
   from_bytes : (d s : List ℕ) (r : List (List ℕ)) → Bytes (s2v_from mac d s r)
   unfolding s2v_last s2v_from
   from_bytes d s [] = cmac-bytes _
-  from_bytes d s (t ∷ r) = from_bytes _ t r
+  from_bytes d s (t ∷ r) = from_bytes (xors (dbl d) (cmac mac s)) t r
 
   s2v-bytes : (ss : List (List ℕ)) → Bytes (s2v mac ss)
   unfolding s2v

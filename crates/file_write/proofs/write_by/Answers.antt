@@ -24,7 +24,7 @@ abbrev codec : tie.Start → Codec
 codec b = codec_by b.args.combo b.args.enc.now b.args.mac.now
 
 abbrev chosen : tie.Start → Choice
-chosen b = own_choice b.args.header-nonce.now b.args.key.now b.args.nonces.now b.args.cleartext.now
+chosen b = own_choice b.args.header_nonce.now b.args.key.now b.args.nonces.now b.args.cleartext.now
 
 pub sizes_right-requires : goal.sizes_right-requires
 sizes_right-requires c =

@@ -19,6 +19,10 @@ use Rattle.name_texts.proofs.Stems.{limit-low, walked, walk_inside, in_stem, at-
 use borrow.Author.Rules.{rules}
 use Rattle.name_texts.proofs.form.broken_at.Goals as goal
 
+-- The lesser of two.
+ends : (a b r : ℕ) → ((a ≤ b → r ≡ a) × (b ≤ a → r ≡ b)) → (r ≤ a) × (r ≤ b)
+ends a b r e = ⊎_elim (λ h. let q = e.0 h in (omega arith, omega arith)) (λ h. let q = e.1 (omega arith) in (omega arith, omega arith)) (le_or_lt a b)
+
 pub overflow_mul-limit : goal.overflow_mul-limit
 overflow_mul-limit c =
     let low : c.stem_limit-limit.result ≤ 1036 = limit-low c.args.most c.stem_limit-limit.result c.stem_limit-limit.ensures in
@@ -26,18 +30,12 @@ overflow_mul-limit c =
 
 pub stop_from-j-requires : goal.stop_from-j-requires
 stop_from-j-requires c =
-    let start : (c.lesser-from.result ≤ c.args.n) × (c.lesser-from.result ≤ c.stem_limit-limit.result / 3 * 4) = ends c.args.n (c.stem_limit-limit.result / 3 * 4) c.lesser-from.result c.lesser-from.ensures
-  where
-    ends : (a b r : ℕ) → ((a ≤ b → r ≡ a) × (b ≤ a → r ≡ b)) → (r ≤ a) × (r ≤ b)
-    ends a b r e = ⊎_elim (λ h. let q = e.0 h in (omega arith, omega arith)) (λ h. let q = e.1 (omega arith) in (omega arith, omega arith)) (le_or_lt a b) in
+    let start : (c.lesser-from.result ≤ c.args.n) × (c.lesser-from.result ≤ c.stem_limit-limit.result / 3 * 4) = ends c.args.n (c.stem_limit-limit.result / 3 * 4) c.lesser-from.result c.lesser-from.ensures in
     record { t_value = c.requires.t_value; from_in_bounds = omega (arith, (start).0, c.requires.leading.inside) }
 
 pub slice_bounds-whole_stem-end : goal.slice_bounds-whole_stem-end
 slice_bounds-whole_stem-end c =
-    let start : (c.lesser-from.result ≤ c.args.n) × (c.lesser-from.result ≤ c.stem_limit-limit.result / 3 * 4) = ends c.args.n (c.stem_limit-limit.result / 3 * 4) c.lesser-from.result c.lesser-from.ensures
-  where
-    ends : (a b r : ℕ) → ((a ≤ b → r ≡ a) × (b ≤ a → r ≡ b)) → (r ≤ a) × (r ≤ b)
-    ends a b r e = ⊎_elim (λ h. let q = e.0 h in (omega arith, omega arith)) (λ h. let q = e.1 (omega arith) in (omega arith, omega arith)) (le_or_lt a b) in
+    let start : (c.lesser-from.result ≤ c.args.n) × (c.lesser-from.result ≤ c.stem_limit-limit.result / 3 * 4) = ends c.args.n (c.stem_limit-limit.result / 3 * 4) c.lesser-from.result c.lesser-from.ensures in
     let stopped : let x = c.args in
     c.stop_from-j.result ≡ stop true 17 (stem_allows x.most) x.text.now = let x = c.args in
     let s = start in
@@ -48,10 +46,7 @@ slice_bounds-whole_stem-end c =
 
 pub whole_stem-requires : goal.whole_stem-requires
 whole_stem-requires c =
-    let start : (c.lesser-from.result ≤ c.args.n) × (c.lesser-from.result ≤ c.stem_limit-limit.result / 3 * 4) = ends c.args.n (c.stem_limit-limit.result / 3 * 4) c.lesser-from.result c.lesser-from.ensures
-  where
-    ends : (a b r : ℕ) → ((a ≤ b → r ≡ a) × (b ≤ a → r ≡ b)) → (r ≤ a) × (r ≤ b)
-    ends a b r e = ⊎_elim (λ h. let q = e.0 h in (omega arith, omega arith)) (λ h. let q = e.1 (omega arith) in (omega arith, omega arith)) (le_or_lt a b) in
+    let start : (c.lesser-from.result ≤ c.args.n) × (c.lesser-from.result ≤ c.stem_limit-limit.result / 3 * 4) = ends c.args.n (c.stem_limit-limit.result / 3 * 4) c.lesser-from.result c.lesser-from.ensures in
     let stopped : let x = c.args in
     c.stop_from-j.result ≡ stop true 17 (stem_allows x.most) x.text.now = let x = c.args in
     let s = start in
@@ -63,10 +58,7 @@ whole_stem-requires c =
 
 pub returns-then-not-whole_stem : goal.returns-then-not-whole_stem
 returns-then-not-whole_stem c =
-    let start : (c.lesser-from.result ≤ c.args.n) × (c.lesser-from.result ≤ c.stem_limit-limit.result / 3 * 4) = ends c.args.n (c.stem_limit-limit.result / 3 * 4) c.lesser-from.result c.lesser-from.ensures
-  where
-    ends : (a b r : ℕ) → ((a ≤ b → r ≡ a) × (b ≤ a → r ≡ b)) → (r ≤ a) × (r ≤ b)
-    ends a b r e = ⊎_elim (λ h. let q = e.0 h in (omega arith, omega arith)) (λ h. let q = e.1 (omega arith) in (omega arith, omega arith)) (le_or_lt a b) in
+    let start : (c.lesser-from.result ≤ c.args.n) × (c.lesser-from.result ≤ c.stem_limit-limit.result / 3 * 4) = ends c.args.n (c.stem_limit-limit.result / 3 * 4) c.lesser-from.result c.lesser-from.ensures in
     let stopped : let x = c.args in
     c.stop_from-j.result ≡ stop true 17 (stem_allows x.most) x.text.now = let x = c.args in
     let s = start in
@@ -76,10 +68,7 @@ returns-then-not-whole_stem c =
 
 pub slice_bounds-common-count : goal.slice_bounds-common-count
 slice_bounds-common-count c =
-    let start : (c.lesser-from.result ≤ c.args.n) × (c.lesser-from.result ≤ c.stem_limit-limit.result / 3 * 4) = ends c.args.n (c.stem_limit-limit.result / 3 * 4) c.lesser-from.result c.lesser-from.ensures
-  where
-    ends : (a b r : ℕ) → ((a ≤ b → r ≡ a) × (b ≤ a → r ≡ b)) → (r ≤ a) × (r ≤ b)
-    ends a b r e = ⊎_elim (λ h. let q = e.0 h in (omega arith, omega arith)) (λ h. let q = e.1 (omega arith) in (omega arith, omega arith)) (le_or_lt a b) in
+    let start : (c.lesser-from.result ≤ c.args.n) × (c.lesser-from.result ≤ c.stem_limit-limit.result / 3 * 4) = ends c.args.n (c.stem_limit-limit.result / 3 * 4) c.lesser-from.result c.lesser-from.ensures in
     let stopped : let x = c.args in
     c.stop_from-j.result ≡ stop true 17 (stem_allows x.most) x.text.now = let x = c.args in
     let s = start in
@@ -90,10 +79,7 @@ slice_bounds-common-count c =
 
 pub slice_bounds-common-start : goal.slice_bounds-common-start
 slice_bounds-common-start c =
-    let start : (c.lesser-from.result ≤ c.args.n) × (c.lesser-from.result ≤ c.stem_limit-limit.result / 3 * 4) = ends c.args.n (c.stem_limit-limit.result / 3 * 4) c.lesser-from.result c.lesser-from.ensures
-  where
-    ends : (a b r : ℕ) → ((a ≤ b → r ≡ a) × (b ≤ a → r ≡ b)) → (r ≤ a) × (r ≤ b)
-    ends a b r e = ⊎_elim (λ h. let q = e.0 h in (omega arith, omega arith)) (λ h. let q = e.1 (omega arith) in (omega arith, omega arith)) (le_or_lt a b) in
+    let start : (c.lesser-from.result ≤ c.args.n) × (c.lesser-from.result ≤ c.stem_limit-limit.result / 3 * 4) = ends c.args.n (c.stem_limit-limit.result / 3 * 4) c.lesser-from.result c.lesser-from.ensures in
     let stopped : let x = c.args in
     c.stop_from-j.result ≡ stop true 17 (stem_allows x.most) x.text.now = let x = c.args in
     let s = start in
@@ -104,10 +90,7 @@ slice_bounds-common-start c =
 
 pub overflow_add-result : goal.overflow_add-result
 overflow_add-result c =
-    let start : (c.lesser-from.result ≤ c.args.n) × (c.lesser-from.result ≤ c.stem_limit-limit.result / 3 * 4) = ends c.args.n (c.stem_limit-limit.result / 3 * 4) c.lesser-from.result c.lesser-from.ensures
-  where
-    ends : (a b r : ℕ) → ((a ≤ b → r ≡ a) × (b ≤ a → r ≡ b)) → (r ≤ a) × (r ≤ b)
-    ends a b r e = ⊎_elim (λ h. let q = e.0 h in (omega arith, omega arith)) (λ h. let q = e.1 (omega arith) in (omega arith, omega arith)) (le_or_lt a b) in
+    let start : (c.lesser-from.result ≤ c.args.n) × (c.lesser-from.result ≤ c.stem_limit-limit.result / 3 * 4) = ends c.args.n (c.stem_limit-limit.result / 3 * 4) c.lesser-from.result c.lesser-from.ensures in
     let stopped : let x = c.args in
     c.stop_from-j.result ≡ stop true 17 (stem_allows x.most) x.text.now = let x = c.args in
     let s = start in
@@ -122,10 +105,7 @@ overflow_add-result c =
 
 pub returns : goal.returns
 returns c =
-    let start : (c.lesser-from.result ≤ c.args.n) × (c.lesser-from.result ≤ c.stem_limit-limit.result / 3 * 4) = ends c.args.n (c.stem_limit-limit.result / 3 * 4) c.lesser-from.result c.lesser-from.ensures
-  where
-    ends : (a b r : ℕ) → ((a ≤ b → r ≡ a) × (b ≤ a → r ≡ b)) → (r ≤ a) × (r ≤ b)
-    ends a b r e = ⊎_elim (λ h. let q = e.0 h in (omega arith, omega arith)) (λ h. let q = e.1 (omega arith) in (omega arith, omega arith)) (le_or_lt a b) in
+    let start : (c.lesser-from.result ≤ c.args.n) × (c.lesser-from.result ≤ c.stem_limit-limit.result / 3 * 4) = ends c.args.n (c.stem_limit-limit.result / 3 * 4) c.lesser-from.result c.lesser-from.ensures in
     let stopped : let x = c.args in
     c.stop_from-j.result ≡ stop true 17 (stem_allows x.most) x.text.now = let x = c.args in
     let s = start in

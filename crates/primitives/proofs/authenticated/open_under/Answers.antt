@@ -14,19 +14,14 @@ use Rattle.gcm.specs.Gcm as spec
 use Rattle.gcm.proofs.Laws.{length-crypt}
 use Rattle.primitives.proofs.authenticated.open_under.Goals as goal
 
-tested : (c : tie.After-good2) →
-    let x = c.before.before.before.before.before.before.before.before.before.before.before.before.before.before.before.before.args in
-    c.good2.result ≡ spec.good (aes 8 x.key.now) x.nonce.now x.aad.now x.sealed.now
-tested c =
-    let k = c.before.before.before.before.before.before in
-    let x = k.before.before.before.before.before.before.before.before.before.before.args in
-    c.good2.ensures ∙ ap (λ (e : List ℕ → List ℕ). spec.good e x.nonce.now x.aad.now x.sealed.now) k.prepare.ensures.1
-
 pub good-requires : goal.good-requires
 good-requires c = record { keyed = c.prepare.ensures.0; nonce_len = (c.requires.key_len.1, c.requires.key_len.2, omega (arith, c.requires.key_len.3), omega (arith, c.requires.sealed_len)) }
 
 pub returns-then-not-good : goal.returns-then-not-good
-returns-then-not-good c = record { value = sym (not-true _ c.if-not-good.true-raw) ∙ tested c; out_after = refl }
+returns-then-not-good c =
+    let tested : c.good.result ≡ spec.good (aes 8 c.args.key.now) c.args.nonce.now c.args.aad.now c.args.sealed.now =
+    c.good.ensures ∙ ap (λ (e : List ℕ → List ℕ). spec.good e c.args.nonce.now c.args.aad.now c.args.sealed.now) c.prepare.ensures.1 in
+    record { value = sym (not-true _ c.if-not-good.true-raw) ∙ tested; out_after = refl }
 
 pub slice_bounds-crypt-end-2 : goal.slice_bounds-crypt-end-2
 slice_bounds-crypt-end-2 c =
@@ -41,9 +36,11 @@ crypt-requires c =
 pub returns : goal.returns
 unfolding spec.plain
 returns c =
+    let tested : c.good.result ≡ spec.good (aes 8 c.args.key.now) c.args.nonce.now c.args.aad.now c.args.sealed.now =
+    c.good.ensures ∙ ap (λ (e : List ℕ → List ℕ). spec.good e c.args.nonce.now c.args.aad.now c.args.sealed.now) c.prepare.ensures.1 in
     let x = c.args in
     let s = x.sealed.now in
     let e = cipher 14 c.prepare.new.w in
     let t = spec.crypt e x.nonce.now (take (length s - 16) s) in
     let m : length t ≡ length s - 16 = length-crypt e (length-cipher 14 _) x.nonce.now (take (length s - 16) s) ∙ length-take-le (length s - 16) s (omega arith) in
-    let n : length t ≤ length x.out.now = omega (arith, m, c.requires.sealed_len) in record { value = sym (not-false _ c.if-not-good.false-raw) ∙ tested c; out_after = c.crypt.ensures ∙ take_all (length x.out.now) t n ∙ ap (λ (f : List ℕ → List ℕ). spec.crypt f x.nonce.now (take (length s - 16) s)) c.prepare.ensures.1 }
+    let n : length t ≤ length x.out.now = omega (arith, m, c.requires.sealed_len) in record { value = sym (not-false _ c.if-not-good.false-raw) ∙ tested; out_after = c.crypt.ensures ∙ take_all (length x.out.now) t n ∙ ap (λ (f : List ℕ → List ℕ). spec.crypt f x.nonce.now (take (length s - 16) s)) c.prepare.ensures.1 }

@@ -42,7 +42,7 @@ unfolding ctr128
 returns c =
     let x = c.args in
     let s = x.text.now in
-    let f = x.«first-counter».now in
+    let f = x.first_counter.now in
     let n : length f ≡ 16 = c.if-first_counter-ne16.false in
     let e = aes 8 x.key.now in
     let l = length-ctr inc128 e (length-aes 8 x.key.now) f s in

@@ -40,7 +40,7 @@ returns-then-first_counter-ne16 c = refused _ _ _ (rw (eq-eqb _ _ c.if-key-ne32.
 pub returns-then-wide-eq0 : goal.returns-then-wide-eq0
 returns-then-wide-eq0 c =
     let x = c.args in
-    let f = x.«first-counter».now in
+    let f = x.first_counter.now in
     done_in_place x.key.now f x.text.now _ x.wide _ c.if-key-ne32.false c.if-first_counter-ne16.false (eq-eqb _ _ c.if-wide-eq0.true)
     (c.crypt_in_place.ensures
     ∙ ap₂ (λ (g : List ℕ → List ℕ) (q : List ℕ). ctr inc32 g q x.text.now) (under_key _ _ c.expand.ensures) (c.block_at-first.ensures ∙ take_all 16 f (omega (arith, c.if-first_counter-ne16.false))))
@@ -48,7 +48,7 @@ returns-then-wide-eq0 c =
 pub returns : goal.returns
 returns c =
     let x = c.args in
-    let f = x.«first-counter».now in
+    let f = x.first_counter.now in
     done_in_place x.key.now f x.text.now _ x.wide _ c.if-key-ne32.false c.if-first_counter-ne16.false (ne_eqb _ _ c.if-wide-eq0.false)
     (c.crypt128_in_place.ensures
     ∙ ap₂ (λ (g : List ℕ → List ℕ) (q : List ℕ). ctr inc128 g q x.text.now) (under_key _ _ c.expand.ensures) (c.block_at-first.ensures ∙ take_all 16 f (omega (arith, c.if-first_counter-ne16.false))))

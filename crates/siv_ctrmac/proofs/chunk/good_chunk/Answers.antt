@@ -12,4 +12,4 @@ pub returns : goal.returns
 unfolding chunk_data
 returns c =
     let x = c.args in
-    c.good.ensures ∙ ap (λ (b : List ℕ). opens (hmac_sha256 x.mac.now) (x.«header-nonce».now ++ b) x.chunk.now) c.split_eight.ensures
+    c.good.ensures ∙ ap (λ (b : List ℕ). opens (hmac_sha256 x.mac.now) (x.header_nonce.now ++ b) x.chunk.now) c.split_eight.ensures

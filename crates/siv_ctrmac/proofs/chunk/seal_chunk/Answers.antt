@@ -14,4 +14,4 @@ unfolding chunk_data
 returns c =
     let x = c.args in
     c.seal.ensures
-    ∙ ap (λ (b : List ℕ). sealed (cipher 14 x.w.now) (hmac_sha256 x.mac.now) (x.«header-nonce».now ++ b) x.nonce.now x.cleartext.now) c.split_eight.ensures
+    ∙ ap (λ (b : List ℕ). sealed (cipher 14 x.w.now) (hmac_sha256 x.mac.now) (x.header_nonce.now ++ b) x.nonce.now x.cleartext.now) c.split_eight.ensures

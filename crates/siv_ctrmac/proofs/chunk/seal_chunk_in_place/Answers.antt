@@ -16,4 +16,4 @@ returns c =
     let x = c.args in
     let s = x.chunk.now in
     c.seal_in_place.ensures
-    ∙ ap (λ (b : List ℕ). sealed (cipher 14 x.w.now) (hmac_sha256 x.mac.now) (x.«header-nonce».now ++ b) x.nonce.now (take (length s - 48) (drop 16 s))) c.split_eight.ensures
+    ∙ ap (λ (b : List ℕ). sealed (cipher 14 x.w.now) (hmac_sha256 x.mac.now) (x.header_nonce.now ++ b) x.nonce.now (take (length s - 48) (drop 16 s))) c.split_eight.ensures

@@ -21,7 +21,7 @@ whole b v h k =
 pub returns : goal.returns
 unfolding chunk_data
 returns c =
-    let v = c.args.«header-nonce».now in
+    let v = c.args.header_nonce.now in
     c.copy_at-2.ensures
     ∙ ap (placed v 8) (c.copy_at.ensures ∙ ap (λ (b : List ℕ). placed b 0 (replicate 20 0)) c.split_eight.ensures)
     ∙ whole (be 8 c.args.number) v (length-be 8 c.args.number) c.requires

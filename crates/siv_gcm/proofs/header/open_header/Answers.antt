@@ -14,17 +14,12 @@ use Rattle.siv_gcm.specs.SivGcm.{opens, opened, head_of, header_good}
 use Rattle.siv_gcm.proofs.Sealed.{length-opened}
 use Rattle.siv_gcm.proofs.header.open_header.Goals as goal
 
-tagged : (c : tie.After-good2) →
-    let x = c.before.before.before.before.before.before.before.before.before.before.before.before.args in
-    c.good2.result ≡ opens (aes 8 x.enc.now) [] x.header.now
-tagged c =
-    let k = c.before.before.before.before.before.before in
-    let x = k.before.before.before.before.before.before.args in
-    c.good2.ensures ∙ ap (λ (e : List ℕ → List ℕ). opens e [] x.header.now) k.prepare.ensures.1
-
 pub returns-then-not-good : goal.returns-then-not-good
 unfolding header_good
-returns-then-not-good c = record { value = sym (sym (tagged c) ∙ not-true c.good.result c.if-not-good.true-raw); payload_after = refl }
+returns-then-not-good c =
+    let tagged : c.good.result ≡ opens (aes 8 c.args.enc.now) [] c.args.header.now =
+    c.good.ensures ∙ ap (λ (e : List ℕ → List ℕ). opens e [] c.args.header.now) c.prepare.ensures.1 in
+    record { value = sym (sym tagged ∙ not-true c.good.result c.if-not-good.true-raw); payload_after = refl }
 
 pub open_part-requires : goal.open_part-requires
 open_part-requires c = record { t_value = (c.requires.t_value, search rules, ([], sym c.good.ensures ∙ not-false c.good.result c.if-not-good.false-raw)); out_in_bounds = omega (arith, c.requires.enc_len) }
@@ -32,9 +27,11 @@ open_part-requires c = record { t_value = (c.requires.t_value, search rules, ([]
 pub returns : goal.returns
 unfolding header_good head_of
 returns c =
+    let tagged : c.good.result ≡ opens (aes 8 c.args.enc.now) [] c.args.header.now =
+    c.good.ensures ∙ ap (λ (e : List ℕ → List ℕ). opens e [] c.args.header.now) c.prepare.ensures.1 in
     let x = c.args in
     let b = x.header.now in
     let n = length-opened x.enc.now b in
     let o = opened (aes 8 x.enc.now) b in
     let e : c.open_part.new.out ≡ take (length x.payload.now) o =
-    c.open_part.ensures ∙ ap (λ (e : List ℕ → List ℕ). take (length x.payload.now) (opened e b)) c.prepare.ensures.1 in record { value = sym (sym (tagged c) ∙ not-false c.good.result c.if-not-good.false-raw); payload_after = e ∙ take_all (length x.payload.now) o (omega (arith, n, c.requires.enc_len)) ∙ sym (take-append-drop reserved_size o) }
+    c.open_part.ensures ∙ ap (λ (e : List ℕ → List ℕ). take (length x.payload.now) (opened e b)) c.prepare.ensures.1 in record { value = sym (sym tagged ∙ not-false c.good.result c.if-not-good.false-raw); payload_after = e ∙ take_all (length x.payload.now) o (omega (arith, n, c.requires.enc_len)) ∙ sym (take-append-drop reserved_size o) }

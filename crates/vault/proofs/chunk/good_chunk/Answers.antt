@@ -18,9 +18,9 @@ good_chunk-requires-in-SivCtrmac c = omega (arith, ap (λ (x : Combo). (sizes_of
 pub returns-in-SivGcm : goal.returns-in-SivGcm
 returns-in-SivGcm c =
     let x = c.args in
-    c.good_chunk.ensures ∙ ap (λ (k : Combo). good_under k (cipher 14 x.w.now) x.mac.now x.«header-nonce».now x.number x.chunk.now) (sym c.in-SivGcm.is)
+    c.good_chunk.ensures ∙ ap (λ (k : Combo). good_under k (cipher 14 x.w.now) x.mac.now x.header_nonce.now x.number x.chunk.now) (sym c.in-SivGcm.is)
 
 pub returns-in-SivCtrmac : goal.returns-in-SivCtrmac
 returns-in-SivCtrmac c =
     let x = c.args in
-    c.good_chunk-in-SivCtrmac.ensures ∙ ap (λ (k : Combo). good_under k (cipher 14 x.w.now) x.mac.now x.«header-nonce».now x.number x.chunk.now) (sym c.in-SivCtrmac.is)
+    c.good_chunk-in-SivCtrmac.ensures ∙ ap (λ (k : Combo). good_under k (cipher 14 x.w.now) x.mac.now x.header_nonce.now x.number x.chunk.now) (sym c.in-SivCtrmac.is)

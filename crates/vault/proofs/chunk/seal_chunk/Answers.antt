@@ -24,10 +24,10 @@ pub returns-in-SivGcm : goal.returns-in-SivGcm
 returns-in-SivGcm c =
     let x = c.args in
     c.seal_chunk.ensures
-    ∙ ap (λ (k : Combo). sealed_under k (cipher 14 x.w.now) x.mac.now x.«header-nonce».now x.number x.nonce.now x.cleartext.now) (sym c.in-SivGcm.is)
+    ∙ ap (λ (k : Combo). sealed_under k (cipher 14 x.w.now) x.mac.now x.header_nonce.now x.number x.nonce.now x.cleartext.now) (sym c.in-SivGcm.is)
 
 pub returns-in-SivCtrmac : goal.returns-in-SivCtrmac
 returns-in-SivCtrmac c =
     let x = c.args in
     c.seal_chunk-in-SivCtrmac.ensures
-    ∙ ap (λ (k : Combo). sealed_under k (cipher 14 x.w.now) x.mac.now x.«header-nonce».now x.number x.nonce.now x.cleartext.now) (sym c.in-SivCtrmac.is)
+    ∙ ap (λ (k : Combo). sealed_under k (cipher 14 x.w.now) x.mac.now x.header_nonce.now x.number x.nonce.now x.cleartext.now) (sym c.in-SivCtrmac.is)
