@@ -19,13 +19,6 @@ use Rattle.file_write.proofs.Ends.{sizes_right, sizes_facts, row_1, row_4, row_7
 use borrow.Author.Rules.{rules}
 use Rattle.file_write.proofs.write_by.Goals as goal
 
--- the combo under the master keys, and the choice, of the call
-abbrev codec : tie.Start → Codec
-codec b = codec_by b.args.combo b.args.enc.now b.args.mac.now
-
-abbrev chosen : tie.Start → Choice
-chosen b = own_choice b.args.header_nonce.now b.args.key.now b.args.nonces.now b.args.cleartext.now
-
 pub sizes_right-requires : goal.sizes_right-requires
 sizes_right-requires c =
     let x = c.args in
@@ -33,59 +26,69 @@ sizes_right-requires c =
 
 pub returns-then-not-sizes_right : goal.returns-then-not-sizes_right
 returns-then-not-sizes_right c =
-    let by : write_file (codec c) (chosen c) c.args.out.now ≡ write_file (codec_with c.args.combo c.args.enc.now c.args.mac.now) (chosen c) c.args.out.now = ap (λ (C : Codec). write_file C (chosen c) c.args.out.now) (codec_by_lem c.args.combo c.args.enc.now c.args.mac.now) in
-    let tested : sizes_right (codec c) (chosen c) ≡ c.sizes_right.result = let x = c.args in
-    ap₂ (λ (a : Bool) (z : Sizes). a && (head_right (sizes_of x.combo) (chosen c).head && eqb (length x.nonces.now) (z.nonce * chunks (length x.cleartext.now))))
+    let codec : Codec = codec_by c.args.combo c.args.enc.now c.args.mac.now in
+    let chosen : Choice = own_choice c.args.header_nonce.now c.args.key.now c.args.nonces.now c.args.cleartext.now in
+    let by : write_file codec chosen c.args.out.now ≡ write_file (codec_with c.args.combo c.args.enc.now c.args.mac.now) chosen c.args.out.now = ap (λ (C : Codec). write_file C chosen c.args.out.now) (codec_by_lem c.args.combo c.args.enc.now c.args.mac.now) in
+    let tested : sizes_right codec chosen ≡ c.sizes_right.result = let x = c.args in
+    ap₂ (λ (a : Bool) (z : Sizes). a && (head_right (sizes_of x.combo) chosen.head && eqb (length x.nonces.now) (z.nonce * chunks (length x.cleartext.now))))
     ((keys_exactly x.enc.now x.mac.now).1 c.requires) (sym c.sizes_of-w.ensures)
     ∙ sym c.sizes_right.ensures in
-    row_1 (codec c) (chosen c) c.args.out.now (tested ∙ not-true _ c.if-not-sizes_right.true-raw) ∙ by
+    row_1 codec chosen c.args.out.now (tested ∙ not-true _ c.if-not-sizes_right.true-raw) ∙ by
 
 pub returns-then-n-gt16777216 : goal.returns-then-n-gt16777216
 returns-then-n-gt16777216 c =
-    let by : write_file (codec c) (chosen c) c.args.out.now ≡ write_file (codec_with c.args.combo c.args.enc.now c.args.mac.now) (chosen c) c.args.out.now = ap (λ (C : Codec). write_file C (chosen c) c.args.out.now) (codec_by_lem c.args.combo c.args.enc.now c.args.mac.now) in
-    let tested : sizes_right (codec c) (chosen c) ≡ c.sizes_right.result = let x = c.args in
-    ap₂ (λ (a : Bool) (z : Sizes). a && (head_right (sizes_of x.combo) (chosen c).head && eqb (length x.nonces.now) (z.nonce * chunks (length x.cleartext.now))))
+    let codec : Codec = codec_by c.args.combo c.args.enc.now c.args.mac.now in
+    let chosen : Choice = own_choice c.args.header_nonce.now c.args.key.now c.args.nonces.now c.args.cleartext.now in
+    let by : write_file codec chosen c.args.out.now ≡ write_file (codec_with c.args.combo c.args.enc.now c.args.mac.now) chosen c.args.out.now = ap (λ (C : Codec). write_file C chosen c.args.out.now) (codec_by_lem c.args.combo c.args.enc.now c.args.mac.now) in
+    let tested : sizes_right codec chosen ≡ c.sizes_right.result = let x = c.args in
+    ap₂ (λ (a : Bool) (z : Sizes). a && (head_right (sizes_of x.combo) chosen.head && eqb (length x.nonces.now) (z.nonce * chunks (length x.cleartext.now))))
     ((keys_exactly x.enc.now x.mac.now).1 c.requires) (sym c.sizes_of-w.ensures)
     ∙ sym c.sizes_right.ensures in
-    let sizes : sizes_right (codec c) (chosen c) ≡ true = tested ∙ not-false _ c.if-not-sizes_right.false-raw in
-    row_4 (codec c) (chosen c) c.args.out.now (sizes) (omega arith) ∙ by
+    let sizes : sizes_right codec chosen ≡ true = tested ∙ not-false _ c.if-not-sizes_right.false-raw in
+    row_4 codec chosen c.args.out.now (sizes) (omega arith) ∙ by
 
 pub returns-then-out-size : goal.returns-then-out-size
 returns-then-out-size c =
-    let by : write_file (codec c) (chosen c) c.args.out.now ≡ write_file (codec_with c.args.combo c.args.enc.now c.args.mac.now) (chosen c) c.args.out.now = ap (λ (C : Codec). write_file C (chosen c) c.args.out.now) (codec_by_lem c.args.combo c.args.enc.now c.args.mac.now) in
-    let tested : sizes_right (codec c) (chosen c) ≡ c.sizes_right.result = let x = c.args in
-    ap₂ (λ (a : Bool) (z : Sizes). a && (head_right (sizes_of x.combo) (chosen c).head && eqb (length x.nonces.now) (z.nonce * chunks (length x.cleartext.now))))
+    let codec : Codec = codec_by c.args.combo c.args.enc.now c.args.mac.now in
+    let chosen : Choice = own_choice c.args.header_nonce.now c.args.key.now c.args.nonces.now c.args.cleartext.now in
+    let by : write_file codec chosen c.args.out.now ≡ write_file (codec_with c.args.combo c.args.enc.now c.args.mac.now) chosen c.args.out.now = ap (λ (C : Codec). write_file C chosen c.args.out.now) (codec_by_lem c.args.combo c.args.enc.now c.args.mac.now) in
+    let tested : sizes_right codec chosen ≡ c.sizes_right.result = let x = c.args in
+    ap₂ (λ (a : Bool) (z : Sizes). a && (head_right (sizes_of x.combo) chosen.head && eqb (length x.nonces.now) (z.nonce * chunks (length x.cleartext.now))))
     ((keys_exactly x.enc.now x.mac.now).1 c.requires) (sym c.sizes_of-w.ensures)
     ∙ sym c.sizes_right.ensures in
-    let sizes : sizes_right (codec c) (chosen c) ≡ true = tested ∙ not-false _ c.if-not-sizes_right.false-raw in
-    row_7 (codec c) (chosen c) c.args.out.now (sizes) (omega arith) (omega (arith, c.file_length-size.ensures)) ∙ by
+    let sizes : sizes_right codec chosen ≡ true = tested ∙ not-false _ c.if-not-sizes_right.false-raw in
+    row_7 codec chosen c.args.out.now (sizes) (omega arith) (omega (arith, c.file_length-size.ensures)) ∙ by
 
 pub repeats-requires : goal.repeats-requires
 repeats-requires c =
-    let tested : sizes_right (codec c) (chosen c) ≡ c.sizes_right.result = let x = c.args in
-    ap₂ (λ (a : Bool) (z : Sizes). a && (head_right (sizes_of x.combo) (chosen c).head && eqb (length x.nonces.now) (z.nonce * chunks (length x.cleartext.now))))
+    let codec : Codec = codec_by c.args.combo c.args.enc.now c.args.mac.now in
+    let chosen : Choice = own_choice c.args.header_nonce.now c.args.key.now c.args.nonces.now c.args.cleartext.now in
+    let tested : sizes_right codec chosen ≡ c.sizes_right.result = let x = c.args in
+    ap₂ (λ (a : Bool) (z : Sizes). a && (head_right (sizes_of x.combo) chosen.head && eqb (length x.nonces.now) (z.nonce * chunks (length x.cleartext.now))))
     ((keys_exactly x.enc.now x.mac.now).1 c.requires) (sym c.sizes_of-w.ensures)
     ∙ sym c.sizes_right.ensures in
-    let sizes : sizes_right (codec c) (chosen c) ≡ true = tested ∙ not-false _ c.if-not-sizes_right.false-raw in
+    let sizes : sizes_right codec chosen ≡ true = tested ∙ not-false _ c.if-not-sizes_right.false-raw in
     let facts : let x = c.args in
     let z = sizes_of x.combo in
-    (length x.header_nonce.now ≡ z.nonce) × (length x.key.now ≡ 32) × (length x.nonces.now ≡ z.nonce * chunks (length x.cleartext.now)) = sizes_facts (codec c) (chosen c) (sizes) in
+    (length x.header_nonce.now ≡ z.nonce) × (length x.key.now ≡ 32) × (length x.nonces.now ≡ z.nonce * chunks (length x.cleartext.now)) = sizes_facts codec chosen (sizes) in
     let l = (facts).2 in
     omega (arith, l ∙ ap₂ (λ (z : Sizes) (m : ℕ). z.nonce * m) (sym c.sizes_of-w.ensures) (sym c.chunks.ensures))
 
 pub returns-then-repeats : goal.returns-then-repeats
 returns-then-repeats c =
-    let by : write_file (codec c) (chosen c) c.args.out.now ≡ write_file (codec_with c.args.combo c.args.enc.now c.args.mac.now) (chosen c) c.args.out.now = ap (λ (C : Codec). write_file C (chosen c) c.args.out.now) (codec_by_lem c.args.combo c.args.enc.now c.args.mac.now) in
-    let tested : sizes_right (codec c) (chosen c) ≡ c.sizes_right.result = let x = c.args in
-    ap₂ (λ (a : Bool) (z : Sizes). a && (head_right (sizes_of x.combo) (chosen c).head && eqb (length x.nonces.now) (z.nonce * chunks (length x.cleartext.now))))
+    let codec : Codec = codec_by c.args.combo c.args.enc.now c.args.mac.now in
+    let chosen : Choice = own_choice c.args.header_nonce.now c.args.key.now c.args.nonces.now c.args.cleartext.now in
+    let by : write_file codec chosen c.args.out.now ≡ write_file (codec_with c.args.combo c.args.enc.now c.args.mac.now) chosen c.args.out.now = ap (λ (C : Codec). write_file C chosen c.args.out.now) (codec_by_lem c.args.combo c.args.enc.now c.args.mac.now) in
+    let tested : sizes_right codec chosen ≡ c.sizes_right.result = let x = c.args in
+    ap₂ (λ (a : Bool) (z : Sizes). a && (head_right (sizes_of x.combo) chosen.head && eqb (length x.nonces.now) (z.nonce * chunks (length x.cleartext.now))))
     ((keys_exactly x.enc.now x.mac.now).1 c.requires) (sym c.sizes_of-w.ensures)
     ∙ sym c.sizes_right.ensures in
-    let sizes : sizes_right (codec c) (chosen c) ≡ true = tested ∙ not-false _ c.if-not-sizes_right.false-raw in
+    let sizes : sizes_right codec chosen ≡ true = tested ∙ not-false _ c.if-not-sizes_right.false-raw in
     let again : let x = c.args in
     repeats (sizes_of x.combo).nonce (chunks (length x.cleartext.now)) x.nonces.now ≡ c.repeats.result = let x = c.args in
     ap₂ (λ (z : Sizes) (m : ℕ). repeats z.nonce m x.nonces.now) (sym c.sizes_of-w.ensures) (sym c.chunks.ensures) ∙ sym c.repeats.ensures in
     let e = c.file_length-size.ensures in
-    row_8 (codec c) (chosen c) c.args.out.now (sizes) (omega arith) (omega (arith, e)) (again ∙ c.if-repeats.true) ∙ by
+    row_8 codec chosen c.args.out.now (sizes) (omega arith) (omega (arith, e)) (again ∙ c.if-repeats.true) ∙ by
 
 pub slice_bounds-file-end-2 : goal.slice_bounds-file-end-2
 slice_bounds-file-end-2 c =
@@ -94,24 +97,28 @@ slice_bounds-file-end-2 c =
 
 pub seal_file-requires : goal.seal_file-requires
 seal_file-requires c =
-    let tested : sizes_right (codec c) (chosen c) ≡ c.sizes_right.result = let x = c.args in
-    ap₂ (λ (a : Bool) (z : Sizes). a && (head_right (sizes_of x.combo) (chosen c).head && eqb (length x.nonces.now) (z.nonce * chunks (length x.cleartext.now))))
+    let codec : Codec = codec_by c.args.combo c.args.enc.now c.args.mac.now in
+    let chosen : Choice = own_choice c.args.header_nonce.now c.args.key.now c.args.nonces.now c.args.cleartext.now in
+    let tested : sizes_right codec chosen ≡ c.sizes_right.result = let x = c.args in
+    ap₂ (λ (a : Bool) (z : Sizes). a && (head_right (sizes_of x.combo) chosen.head && eqb (length x.nonces.now) (z.nonce * chunks (length x.cleartext.now))))
     ((keys_exactly x.enc.now x.mac.now).1 c.requires) (sym c.sizes_of-w.ensures)
     ∙ sym c.sizes_right.ensures in
-    let sizes : sizes_right (codec c) (chosen c) ≡ true = tested ∙ not-false _ c.if-not-sizes_right.false-raw in
+    let sizes : sizes_right codec chosen ≡ true = tested ∙ not-false _ c.if-not-sizes_right.false-raw in
     let facts : let x = c.args in
     let z = sizes_of x.combo in
-    (length x.header_nonce.now ≡ z.nonce) × (length x.key.now ≡ 32) × (length x.nonces.now ≡ z.nonce * chunks (length x.cleartext.now)) = sizes_facts (codec c) (chosen c) (sizes) in
+    (length x.header_nonce.now ≡ z.nonce) × (length x.key.now ≡ 32) × (length x.nonces.now ≡ z.nonce * chunks (length x.cleartext.now)) = sizes_facts codec chosen (sizes) in
     let f = facts in record { enc_len = (c.requires.0, f.0, f.1); nonces_len = (f.2, length-take-le _ c.args.out.now c.if-out-size.false ∙ c.file_length-size.ensures) }
 
 pub returns : goal.returns
 returns c =
-    let by : write_file (codec c) (chosen c) c.args.out.now ≡ write_file (codec_with c.args.combo c.args.enc.now c.args.mac.now) (chosen c) c.args.out.now = ap (λ (C : Codec). write_file C (chosen c) c.args.out.now) (codec_by_lem c.args.combo c.args.enc.now c.args.mac.now) in
-    let tested : sizes_right (codec c) (chosen c) ≡ c.sizes_right.result = let x = c.args in
-    ap₂ (λ (a : Bool) (z : Sizes). a && (head_right (sizes_of x.combo) (chosen c).head && eqb (length x.nonces.now) (z.nonce * chunks (length x.cleartext.now))))
+    let codec : Codec = codec_by c.args.combo c.args.enc.now c.args.mac.now in
+    let chosen : Choice = own_choice c.args.header_nonce.now c.args.key.now c.args.nonces.now c.args.cleartext.now in
+    let by : write_file codec chosen c.args.out.now ≡ write_file (codec_with c.args.combo c.args.enc.now c.args.mac.now) chosen c.args.out.now = ap (λ (C : Codec). write_file C chosen c.args.out.now) (codec_by_lem c.args.combo c.args.enc.now c.args.mac.now) in
+    let tested : sizes_right codec chosen ≡ c.sizes_right.result = let x = c.args in
+    ap₂ (λ (a : Bool) (z : Sizes). a && (head_right (sizes_of x.combo) chosen.head && eqb (length x.nonces.now) (z.nonce * chunks (length x.cleartext.now))))
     ((keys_exactly x.enc.now x.mac.now).1 c.requires) (sym c.sizes_of-w.ensures)
     ∙ sym c.sizes_right.ensures in
-    let sizes : sizes_right (codec c) (chosen c) ≡ true = tested ∙ not-false _ c.if-not-sizes_right.false-raw in
+    let sizes : sizes_right codec chosen ≡ true = tested ∙ not-false _ c.if-not-sizes_right.false-raw in
     let again : let x = c.args in
     repeats (sizes_of x.combo).nonce (chunks (length x.cleartext.now)) x.nonces.now ≡ c.repeats.result = let x = c.args in
     ap₂ (λ (z : Sizes) (m : ℕ). repeats z.nonce m x.nonces.now) (sym c.sizes_of-w.ensures) (sym c.chunks.ensures) ∙ sym c.repeats.ensures in
@@ -120,7 +127,7 @@ returns c =
     let e = c.file_length-size.ensures in
     let n = file_length (sizes_of c.args.combo) (length c.args.cleartext.now) in
     let l = front_length f out n (omega (arith, e)) (ap (λ (m : ℕ). length (f ++ drop m out)) (sym e) ∙ c.out-1.given.1) in
-    let q = c.seal_file.ensures ∙ sym (ap (λ (C : Codec). file_of C (chosen c)) (codec_by_lem c.args.combo c.args.enc.now c.args.mac.now)) in
+    let q = c.seal_file.ensures ∙ sym (ap (λ (C : Codec). file_of C chosen) (codec_by_lem c.args.combo c.args.enc.now c.args.mac.now)) in
     ap (λ (m : ℕ). ended (done (m ∷ [])) (f ++ drop m out)) e
-    ∙ no_row (codec c) (chosen c) out (sizes) (omega arith) (omega (arith, e)) (again ∙ c.if-repeats.false) f q l
+    ∙ no_row codec chosen out (sizes) (omega arith) (omega (arith, e)) (again ∙ c.if-repeats.false) f q l
     ∙ by

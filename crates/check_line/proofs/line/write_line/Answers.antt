@@ -22,22 +22,18 @@ refusal a r e = ap (λ (x : Answer). line_of (meaning x)) (sym e)
 
 pub write_opened-requires : goal.write_opened-requires
 write_opened-requires c =
-    let g = c.answer-1.given in
-    omega (arith, c.requires, ap length (opened c.args.answer g.0.0 c.chunks.result g.1 c.chunks.ensures))
+    omega (arith, c.requires, ap length (opened c.args.answer c.in-Done.n c.chunks.result c.in-Done.is c.chunks.ensures))
 
 pub write_refusal-requires : goal.write_refusal-requires
 write_refusal-requires c =
-    let g = c.answer-in-Refused-1.given in
-    omega (arith, c.requires, ap length (refusal c.args.answer g.0.0 g.1))
+    omega (arith, c.requires, ap length (refusal c.args.answer c.in-Refused.refusal c.in-Refused.is))
 
 pub returns-in-Done : goal.returns-in-Done
 returns-in-Done c =
     let x = c.args in
-    let g = c.answer-1.given in
     let k = c.chunks in
-    written_as c.args.line.now (opened x.answer g.0.0 k.result g.1 k.ensures) c.write_opened.ensures
+    written_as c.args.line.now (opened x.answer c.in-Done.n k.result c.in-Done.is k.ensures) c.write_opened.ensures
 
 pub returns-in-Refused : goal.returns-in-Refused
 returns-in-Refused c =
-    let g = c.answer-in-Refused-1.given in
-    written_as c.args.line.now (refusal c.args.answer g.0.0 g.1) c.write_refusal.ensures
+    written_as c.args.line.now (refusal c.args.answer c.in-Refused.refusal c.in-Refused.is) c.write_refusal.ensures

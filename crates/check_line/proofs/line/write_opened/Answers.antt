@@ -29,7 +29,7 @@ unfolding opened_line
 overflow_add-result c =
     let u = c.put_field-a in
     let v = c.put_field-b in
-    record { fits = omega (arith, c.requires, c.well-formed.1.1.0.0, u.ensures.0, v.ensures.0, length_three (opened_text ++ decimal c.args.n) (in_text ++ decimal c.args.k) chunks_text) }
+    record { fits = omega (arith, c.requires, c.well_formed.1.1.0.0, u.ensures.0, v.ensures.0, length_three (opened_text ++ decimal c.args.n) (in_text ++ decimal c.args.k) chunks_text) }
 
 pub returns : goal.returns
 unfolding opened_line

@@ -22,7 +22,7 @@ pub overflow_add-result : goal.overflow_add-result
 unfolding refused_line
 overflow_add-result c =
     let u = c.put_field-a in
-    record { fits = omega (arith, c.requires, c.well-formed.1.0.0, u.ensures.0, length-append (refused_text ++ decimal c.args.row) line_end) }
+    record { fits = omega (arith, c.requires, c.well_formed.1.0.0, u.ensures.0, length-append (refused_text ++ decimal c.args.row) line_end) }
 
 pub returns : goal.returns
 unfolding refused_line

@@ -29,7 +29,7 @@ unfolding refused_at_line
 overflow_add-result c =
     let u = c.put_field-a in
     let v = c.put_field-b in
-    record { fits = omega (arith, c.requires, c.well-formed.1.1.0.0, u.ensures.0, v.ensures.0, length_three (refused_text ++ decimal c.args.row) (at_text ++ decimal c.args.i) line_end) }
+    record { fits = omega (arith, c.requires, c.well_formed.1.1.0.0, u.ensures.0, v.ensures.0, length_three (refused_text ++ decimal c.args.row) (at_text ++ decimal c.args.i) line_end) }
 
 pub returns : goal.returns
 unfolding refused_at_line

@@ -26,10 +26,7 @@ use Rattle.mend_spec.specs.Mend.{chunk_start, resealed, mended_from}
 use Rattle.mend_spec.proofs.Steps.{mended-end}
 use Rattle.mend_spec.proofs.Turns.{covering-place, places, part_in, turn}
 use Rattle.file_mend.proofs.chunks.mend_chunks.Goals as goal
-
--- a chunk sealed again, under the expanded content key w
-abbrev reseal : Combo → List ℕ → List ℕ → List ℕ → ℕ → List ℕ → ℕ → List ℕ → List ℕ → List ℕ
-reseal k w mac n from new = resealed (sealed_under k (cipher 14 w) mac n) (plain_under k (cipher 14 w)) from new
+use Rattle.file_mend.proofs.chunks.mend_chunks.Invariants.{reseal}
 
 -- sums, with few facts in reach
 same : (d w : ℕ) → d + w - d ≡ w

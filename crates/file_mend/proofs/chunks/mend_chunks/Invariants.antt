@@ -27,8 +27,13 @@ use Rattle.mend_spec.proofs.Steps.{mended-end}
 use Rattle.mend_spec.proofs.Turns.{covering-place, places, part_in, turn}
 use Rattle.file_mend.proofs.chunks.mend_chunks.Given as goal
 
+-- a chunk sealed again, under the expanded content key w
+abbrev pub reseal : Combo → List ℕ → List ℕ → List ℕ → ℕ → List ℕ → ℕ → List ℕ → List ℕ → List ℕ
+reseal k w mac n from new = resealed (sealed_under k (cipher 14 w) mac n) (plain_under k (cipher 14 w)) from new
+
 abbrev pub invariant-loop-i : goal.invariant-loop-i
-invariant-loop-i l =    (l.first ≤ l.i) × (l.i ≤ l.e) × (length l.file ≡ length l.initial.file)
+invariant-loop-i l =
+    (l.first ≤ l.i) × (l.i ≤ l.e) × (length l.file ≡ length l.initial.file)
     × ((j : ℕ) → l.i ≤ j → j < l.e → good_under l.combo (cipher 14 l.w) l.mac l.header_nonce j (chunk_at (sizes_of l.combo) l.file j) ≡ true)
     × (mended_from (sizes_of l.combo) (reseal l.combo l.w l.mac l.header_nonce l.from l.new) l.first (l.e - l.first) l.nonces l.initial.file
     ≡ mended_from (sizes_of l.combo) (reseal l.combo l.w l.mac l.header_nonce l.from l.new) l.i (l.e - l.i) (drop ((sizes_of l.combo).nonce * (l.i - l.first)) l.nonces) l.file)

@@ -15,10 +15,8 @@ tells false n m f g = sym (le-ltb n m (g refl))
 
 pub returns-then-n-count : goal.returns-then-n-count
 returns-then-n-count c =
-    let s : tie.Start = search rules in
-    tells _ s.args.n (s.args.from + s.args.count) (λ h. omega (arith, ltb-true)) (λ h. omega (arith, ltb-false))
+    tells _ c.args.n (c.args.from + c.args.count) (λ h. omega (arith, ltb-true)) (λ h. omega (arith, ltb-false))
 
 pub returns-else-n-count : goal.returns-else-n-count
 returns-else-n-count c =
-    let s : tie.Start = search rules in
-    tells _ s.args.n (s.args.from + s.args.count) (λ h. omega (arith, ltb-true)) (λ h. omega (arith, ltb-false))
+    tells _ c.args.n (c.args.from + c.args.count) (λ h. omega (arith, ltb-true)) (λ h. omega (arith, ltb-false))

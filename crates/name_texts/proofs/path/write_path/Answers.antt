@@ -24,11 +24,6 @@ joined t d n e f g h =
     h ∙ ap₂ (λ (s o : List ℕ). placed s 6 o) (part-rest t 32 2 n) b
     ∙ placed-after (data_folder ++ take 2 t ++ slash) (drop 2 t) d 6 (omega (arith, length-append (data_folder ++ take 2 t) slash, length-append data_folder (take 2 t)))
 
-{- old goal slice-aggregate-copy-at-2
-slice-aggregate-copy-at-2 : tie.Need-slice-aggregate-copy-at-2
-slice-aggregate-copy-at-2 c = sym (length-take-le 2 c.before.before.before.before.before.before.id-hash.result (omega (arith, text-length c.before.before.before.before.before.before)))
--}
-
 pub copy_at-requires-2 : goal.copy_at-requires-2
 copy_at-requires-2 c =
     let text-length : length c.id_hash-text.result ≡ 32 = let x = c.args in ap length c.id_hash-text.ensures ∙ length-id_hash x.enc.now x.mac.now x.id.now in
