@@ -37,8 +37,7 @@ fn seal_under(key: &[u8], nonce: &[u8], aad: &[u8], cleartext: &[u8], out: &mut 
 }
 
 // The ciphertext, and then the tag.
-#[unsafe(no_mangle)]
-pub extern "C" fn primitives_gcm_seal(
+pub fn primitives_gcm_seal(
     key: &[u8],
     nonce: &[u8],
     aad: &[u8],
@@ -78,8 +77,7 @@ fn open_under(key: &[u8], nonce: &[u8], aad: &[u8], sealed: &[u8], out: &mut [u8
 }
 
 // The cleartext, if the tag is right.
-#[unsafe(no_mangle)]
-pub extern "C" fn primitives_gcm_open(
+pub fn primitives_gcm_open(
     key: &[u8],
     nonce: &[u8],
     aad: &[u8],

@@ -9,8 +9,7 @@ use aes_inverse::unmix::unmix_keys;
 use octets::slice::copy_at;
 
 // The block, enciphered.
-#[unsafe(no_mangle)]
-pub extern "C" fn primitives_aes256(key: &[u8], block: &[u8], out: &mut [u8]) -> u32
+pub fn primitives_aes256(key: &[u8], block: &[u8], out: &mut [u8]) -> u32
     ensures { end result out.new ≡ aes256 key.now block.now out.old }
 {
     if key.len() != 32 {
@@ -30,8 +29,7 @@ pub extern "C" fn primitives_aes256(key: &[u8], block: &[u8], out: &mut [u8]) ->
 }
 
 // The block, deciphered.
-#[unsafe(no_mangle)]
-pub extern "C" fn primitives_aes256_decrypt(key: &[u8], block: &[u8], out: &mut [u8]) -> u32
+pub fn primitives_aes256_decrypt(key: &[u8], block: &[u8], out: &mut [u8]) -> u32
     ensures { end result out.new ≡ aes256_decrypt key.now block.now out.old }
 {
     if key.len() != 32 {

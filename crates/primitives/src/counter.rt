@@ -8,8 +8,7 @@ use ctr::crypt128;
 use ctr::in_place::{crypt_in_place, crypt128_in_place};
 
 // The text with the key stream added.
-#[unsafe(no_mangle)]
-pub extern "C" fn primitives_ctr128(
+pub fn primitives_ctr128(
     key: &[u8],
     first_counter: &[u8],
     text: &[u8],
@@ -35,8 +34,7 @@ pub extern "C" fn primitives_ctr128(
 }
 
 // The text with the key stream added, in its place. The whole counter block counts if `wide` is not 0, and its last word if it is.
-#[unsafe(no_mangle)]
-pub extern "C" fn primitives_ctr_in_place(
+pub fn primitives_ctr_in_place(
     key: &[u8],
     first_counter: &[u8],
     wide: u32,

@@ -12,8 +12,7 @@ use siv::cmac::cmac;
 use siv::seal::{open_into, seal};
 
 // The tag of a message.
-#[unsafe(no_mangle)]
-pub extern "C" fn primitives_cmac256(key: &[u8], message: &[u8], out: &mut [u8]) -> u32
+pub fn primitives_cmac256(key: &[u8], message: &[u8], out: &mut [u8]) -> u32
     ensures { end result out.new ≡ cmac256 key.now message.now out.old }
 {
     if key.len() != 32 {
@@ -63,8 +62,7 @@ fn seal_under(
 }
 
 // The synthetic IV, and then the ciphertext.
-#[unsafe(no_mangle)]
-pub extern "C" fn primitives_siv_seal(
+pub fn primitives_siv_seal(
     mac_key: &[u8],
     enc_key: &[u8],
     ad_given: u32,
@@ -114,8 +112,7 @@ fn open_under(
 }
 
 // The cleartext, if the synthetic IV matches. It is known to match before the caller's buffer gets a byte.
-#[unsafe(no_mangle)]
-pub extern "C" fn primitives_siv_open(
+pub fn primitives_siv_open(
     mac_key: &[u8],
     enc_key: &[u8],
     ad_given: u32,

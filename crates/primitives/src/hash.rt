@@ -6,8 +6,7 @@ use hmac::mac;
 use octets::slice::copy_at;
 
 // The digest of a message.
-#[unsafe(no_mangle)]
-pub extern "C" fn primitives_sha1(message: &[u8], out: &mut [u8]) -> u32
+pub fn primitives_sha1(message: &[u8], out: &mut [u8]) -> u32
     ensures { end result out.new ≡ sha1_digest message.now out.old }
 {
     if out.len() < 20 {
@@ -18,8 +17,7 @@ pub extern "C" fn primitives_sha1(message: &[u8], out: &mut [u8]) -> u32
 }
 
 // The digest of a message.
-#[unsafe(no_mangle)]
-pub extern "C" fn primitives_sha256(message: &[u8], out: &mut [u8]) -> u32
+pub fn primitives_sha256(message: &[u8], out: &mut [u8]) -> u32
     ensures { end result out.new ≡ sha256_digest message.now out.old }
 {
     if out.len() < 32 {
@@ -30,8 +28,7 @@ pub extern "C" fn primitives_sha256(message: &[u8], out: &mut [u8]) -> u32
 }
 
 // The MAC of a message, which is handed over in three parts.
-#[unsafe(no_mangle)]
-pub extern "C" fn primitives_hmac_sha256(key: &[u8], message: &[u8], out: &mut [u8]) -> u32
+pub fn primitives_hmac_sha256(key: &[u8], message: &[u8], out: &mut [u8]) -> u32
     ensures { end result out.new ≡ hmac_sha256_mac key.now message.now out.old }
 {
     if out.len() < 32 {

@@ -9,8 +9,7 @@ use encoding::{base32, base64url};
 use utf8::proper_text;
 
 // The 32 characters of 20 bytes.
-#[unsafe(no_mangle)]
-pub extern "C" fn primitives_base32(data: &[u8], out: &mut [u8]) -> u32
+pub fn primitives_base32(data: &[u8], out: &mut [u8]) -> u32
     ensures { end result out.new ≡ base32_text «data».now out.old }
 {
     if data.len() != 20 {
@@ -24,8 +23,7 @@ pub extern "C" fn primitives_base32(data: &[u8], out: &mut [u8]) -> u32
 }
 
 // The text of the bytes, with padding unless `padded` is 0.
-#[unsafe(no_mangle)]
-pub extern "C" fn primitives_base64url_encode(data: &[u8], padded: u32, out: &mut [u8]) -> u32
+pub fn primitives_base64url_encode(data: &[u8], padded: u32, out: &mut [u8]) -> u32
     ensures { end result out.new ≡ base64url_text «data».now padded out.old }
 {
     if 4294967296 < data.len() {
@@ -39,8 +37,7 @@ pub extern "C" fn primitives_base64url_encode(data: &[u8], padded: u32, out: &mu
 }
 
 // The bytes of an accepted text, and how many they are; or the place where the text is broken.
-#[unsafe(no_mangle)]
-pub extern "C" fn primitives_base64url_decode(
+pub fn primitives_base64url_decode(
     text: &[u8],
     padded: u32,
     out: &mut [u8],
@@ -66,8 +63,7 @@ pub extern "C" fn primitives_base64url_decode(
 }
 
 // Is it proper text?
-#[unsafe(no_mangle)]
-pub extern "C" fn primitives_proper_text(text: &[u8]) -> u32
+pub fn primitives_proper_text(text: &[u8]) -> u32
     ensures { result ≡ told (proper_text text.now) }
 {
     if proper_text(text) {

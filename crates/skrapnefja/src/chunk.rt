@@ -11,8 +11,7 @@ use content::chunk::{open_chunk, write_chunk};
 use vault_bytes::{lent_row, vault_in};
 
 // Writes the chunk of a number, a nonce and a cleartext of 1 to 32,768 bytes.
-#[unsafe(no_mangle)]
-pub extern "C" fn skrapnefja_write_chunk(
+pub fn skrapnefja_write_chunk(
     vault: &[u8],
     content_key: &[u8],
     header_nonce: &[u8],
@@ -43,8 +42,7 @@ pub extern "C" fn skrapnefja_write_chunk(
 }
 
 // Opens a chunk under its number: writes its cleartext.
-#[unsafe(no_mangle)]
-pub extern "C" fn skrapnefja_open_chunk(
+pub fn skrapnefja_open_chunk(
     vault: &[u8],
     content_key: &[u8],
     header_nonce: &[u8],

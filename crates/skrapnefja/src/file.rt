@@ -13,8 +13,7 @@ use file_write::write_file;
 use vault_bytes::{lent_row, vault_in};
 
 // Writes the file of a cleartext; `chunk_nonces` has one nonce for each chunk, in order.
-#[unsafe(no_mangle)]
-pub extern "C" fn skrapnefja_write_file(
+pub fn skrapnefja_write_file(
     vault: &[u8],
     header_nonce: &[u8],
     content_key: &[u8],
@@ -43,8 +42,7 @@ pub extern "C" fn skrapnefja_write_file(
 }
 
 // Opens a file.
-#[unsafe(no_mangle)]
-pub extern "C" fn skrapnefja_open_file(
+pub fn skrapnefja_open_file(
     vault: &[u8],
     file: &[u8],
     out: &mut [u8],
@@ -61,8 +59,7 @@ pub extern "C" fn skrapnefja_open_file(
 }
 
 // Reads count bytes of the cleartext of a file, from `from` on.
-#[unsafe(no_mangle)]
-pub extern "C" fn skrapnefja_read_range(
+pub fn skrapnefja_read_range(
     vault: &[u8],
     file: &[u8],
     from: u64,
@@ -85,8 +82,7 @@ pub extern "C" fn skrapnefja_read_range(
 }
 
 // Replaces the bytes of the cleartext of a file from `from` on, in place; `nonces` has one nonce for each chunk that covers the range, in order.
-#[unsafe(no_mangle)]
-pub extern "C" fn skrapnefja_mend(
+pub fn skrapnefja_mend(
     vault: &[u8],
     file: &mut [u8],
     from: u64,

@@ -11,8 +11,7 @@ use content::header::{open_header, write_header};
 use vault_bytes::{lent_row, vault_in};
 
 // Writes the header of a nonce and a content key, its eight reserved bytes FF.
-#[unsafe(no_mangle)]
-pub extern "C" fn skrapnefja_write_header(
+pub fn skrapnefja_write_header(
     vault: &[u8],
     nonce: &[u8],
     content_key: &[u8],
@@ -32,8 +31,7 @@ pub extern "C" fn skrapnefja_write_header(
 }
 
 // Opens a header: writes its content key, 32 bytes, and its eight reserved bytes as a number, the first byte the highest.
-#[unsafe(no_mangle)]
-pub extern "C" fn skrapnefja_open_header(
+pub fn skrapnefja_open_header(
     vault: &[u8],
     header: &[u8],
     out: &mut [u8],

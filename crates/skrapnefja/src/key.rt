@@ -7,8 +7,7 @@ use crate::ending::end;
 use key_wrap::{unwrap_key, wrap_key};
 
 // Wraps a key under a key-encryption key: 40 bytes.
-#[unsafe(no_mangle)]
-pub extern "C" fn skrapnefja_wrap_key(
+pub fn skrapnefja_wrap_key(
     kek: &[u8],
     key: &[u8],
     out: &mut [u8],
@@ -20,8 +19,7 @@ pub extern "C" fn skrapnefja_wrap_key(
 }
 
 // Unwraps a wrapped key of 40 bytes: writes the key, 32 bytes.
-#[unsafe(no_mangle)]
-pub extern "C" fn skrapnefja_unwrap_key(
+pub fn skrapnefja_unwrap_key(
     kek: &[u8],
     wrapped_key: &[u8],
     out: &mut [u8],

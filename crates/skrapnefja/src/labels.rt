@@ -7,8 +7,7 @@ use crate::ending::end_label;
 use label::open::open_label;
 
 // Opens a vault's label with its raw key: tells its combo, 1 for SIV_GCM or 2 for SIV_CTRMAC, and its threshold; or the place of a broken segment.
-#[unsafe(no_mangle)]
-pub extern "C" fn skrapnefja_open_label(
+pub fn skrapnefja_open_label(
     raw_key: &[u8],
     label: &[u8],
     combo: &mut u32,

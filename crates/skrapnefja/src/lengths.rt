@@ -11,8 +11,7 @@ use content::lengths::{cleartext_length, file_length};
 use vault_bytes::{lent_row, vault_in};
 
 // The length of the file of a cleartext of this length.
-#[unsafe(no_mangle)]
-pub extern "C" fn skrapnefja_file_length(
+pub fn skrapnefja_file_length(
     vault: &[u8],
     cleartext_length: u64,
     written: &mut u64,
@@ -30,8 +29,7 @@ pub extern "C" fn skrapnefja_file_length(
 }
 
 // The length of the cleartext of a file of this length.
-#[unsafe(no_mangle)]
-pub extern "C" fn skrapnefja_cleartext_length(
+pub fn skrapnefja_cleartext_length(
     vault: &[u8],
     file_length: u64,
     written: &mut u64,

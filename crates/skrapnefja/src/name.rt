@@ -11,8 +11,7 @@ use names::writer::write_name;
 use vault_bytes::{lent_name_row, lent_row, vault_in};
 
 // Writes what is stored for a name in the directory with this ID, and for a shortened name its full name to the second buffer.
-#[unsafe(no_mangle)]
-pub extern "C" fn skrapnefja_write_name(
+pub fn skrapnefja_write_name(
     vault: &[u8],
     dir_id: &[u8],
     name: &[u8],
@@ -35,8 +34,7 @@ pub extern "C" fn skrapnefja_write_name(
 }
 
 // Opens a name that is stored as it is; row 5 tells the place in it.
-#[unsafe(no_mangle)]
-pub extern "C" fn skrapnefja_open_name(
+pub fn skrapnefja_open_name(
     vault: &[u8],
     dir_id: &[u8],
     stored: &[u8],
@@ -54,8 +52,7 @@ pub extern "C" fn skrapnefja_open_name(
 }
 
 // Opens a shortened name: what is stored, and its full name; row 5 tells the place in the latter.
-#[unsafe(no_mangle)]
-pub extern "C" fn skrapnefja_open_long_name(
+pub fn skrapnefja_open_long_name(
     vault: &[u8],
     dir_id: &[u8],
     stored: &[u8],
@@ -78,8 +75,7 @@ pub extern "C" fn skrapnefja_open_long_name(
 }
 
 // Writes the path of the directory with this ID: 36 characters.
-#[unsafe(no_mangle)]
-pub extern "C" fn skrapnefja_dir_path(
+pub fn skrapnefja_dir_path(
     vault: &[u8],
     dir_id: &[u8],
     out: &mut [u8],

@@ -9,8 +9,7 @@ use reader_bytes::stored::store_reader;
 use vault_bytes::{lent_row, vault_in};
 
 // Makes a reader of a file: writes its keys, 65 bytes, or 65 zeros where the file is refused. `written` is the length of the cleartext.
-#[unsafe(no_mangle)]
-pub extern "C" fn skrapnefja_open_reader(
+pub fn skrapnefja_open_reader(
     vault: &[u8],
     file: &[u8],
     keys: &mut [u8],
@@ -26,8 +25,7 @@ pub extern "C" fn skrapnefja_open_reader(
 }
 
 // Reads count bytes of the cleartext, from `from` on, through a reader.
-#[unsafe(no_mangle)]
-pub extern "C" fn skrapnefja_reader_read(
+pub fn skrapnefja_reader_read(
     file: &[u8],
     keys: &[u8],
     from: u64,

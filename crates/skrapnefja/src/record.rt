@@ -7,8 +7,7 @@ use crate::ending::end;
 use vault_bytes::store_vault;
 
 // Writes the record of two master keys, a combo, 1 for SIV_GCM or 2 for SIV_CTRMAC, and a threshold from 36 to 220: 66 bytes.
-#[unsafe(no_mangle)]
-pub extern "C" fn skrapnefja_make_vault(
+pub fn skrapnefja_make_vault(
     enc: &[u8],
     mac: &[u8],
     combo: u32,
