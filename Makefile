@@ -5,22 +5,25 @@
 SHELL := bash
 .SHELLFLAGS := -eu -o pipefail -c
 .ONESHELL:
-.PHONY: run test libraries soak bench
+.PHONY: run test libraries program soak bench
 
 # Checks the sample vault file with the proved program.
-run:
-	@rt check vault_check
-	cat samples/keys samples/log.c9r | target/bin/vault_check
+run: program
+	@cat samples/keys samples/log.c9r | target/bin/vault_check
 
+# The gate proper is `rt ci`: it also fails where an edit could not be tried.
 test:
-	@rt fmt --check
-	for folder in bindings/rust second; do
+	@for folder in bindings/rust second; do
 		(cd "$$folder" && cargo fmt --check && cargo clippy --all-targets --offline -- -D warnings)
 	done
 	log=$$(mktemp)
 	trap 'rm -f "$$log"' EXIT
 	rt ci 2>&1 | tee "$$log"
-	$(MAKE) --no-print-directory libraries
+	if ! grep -q '^rt: ok' "$$log" || grep -E '^rt: ok.*, [1-9][0-9]* bad' "$$log"; then
+		echo "a must-fail edit is bad, or rt ci did not end well" >&2
+		exit 1
+	fi
+	$(MAKE) --no-print-directory libraries program
 	mkdir -p target/examples
 	for example in unlock vault mend pages; do
 		cc -std=c99 -Wall -Wextra -Werror -Iinclude "examples/c/$$example.c" target/staticlib/libskrapnefja.a -o "target/examples/$$example"
@@ -33,8 +36,17 @@ test:
 
 # The static libraries: what firmware links, and the building blocks for the comparisons.
 libraries:
-	@rt staticlib primitives
-	rt staticlib skrapnefja
+	@mkdir -p target/staticlib
+	for library in skrapnefja primitives; do
+		rt lib "$${library}_c"
+		cp "crates/$${library}_c/out/lib$${library}_c.a" "target/staticlib/lib$$library.a"
+	done
+
+# The check program.
+program:
+	@mkdir -p target/bin
+	rt run vault_check </dev/null >/dev/null
+	cp crates/vault_check/out/vault_check target/bin/
 
 # Compares random calls: SEED=7 CALLS=1000000 make soak. The seed is printed, and a call that failed can be made again.
 soak: libraries

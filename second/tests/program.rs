@@ -17,7 +17,7 @@ fn line(pieces: &[&[u8]]) -> String {
         .stdin(Stdio::piped())
         .stdout(Stdio::piped())
         .spawn()
-        .expect("`rt check vault_check` has built the program");
+        .expect("`make program` has built the program");
     let mut input = program.stdin.take().expect("it is piped");
     for piece in pieces {
         input

@@ -43,7 +43,7 @@
 //! `examples/unlock.rs` goes from these two files to an open file,
 //! `examples/vault.rs` shows more of the calls, `examples/mend.rs` corrects a log
 //! in place, and `examples/pages.rs` keeps one open. The library is looked for in
-//! `target/staticlib` of the repository, where `rt staticlib skrapnefja` writes
+//! `target/staticlib` of the repository, where `make libraries` writes
 //! it, or in the folder that the environment variable `SKRAPNEFJA_LIB_DIR` names
 //! at build time.
 

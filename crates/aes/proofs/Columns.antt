@@ -1,12 +1,10 @@
 -- A column of a round is the sum of four words of the table, rotated, and of the key's word.
 -- Assumes nothing.
 use Prim.Native.Nat.{ℕ}
-use mathlib.Core.Path.{◌≡◌, refl, sym, ◌∙◌, ap, ap₂, subst}
-use mathlib.Core.List.{List, [], ◌∷◌}
 use lib.Bits.{bit_xor}
 use Rattle.aes_spec.specs.Field.{mul}
 use Rattle.aes_spec.specs.SBox.{sbox}
-use Rattle.octets.specs.Words.{b0, b1, b2, b3, HasBytes, word_bytes}
+use Rattle.octets.specs.Words.{b0, b1, b2, b3, HasBytes}
 use Rattle.aes_spec.specs.Cipher.{xor4}
 use Rattle.octets.proofs.Words.{xor_bytes, self, renamed}
 

@@ -5,18 +5,18 @@ use mathlib.Core.Bool.{Bool, true, false, ◌&&◌, cond}
 use mathlib.Core.List.{List, [], ◌∷◌, ◌++◌}
 use mathlib.Core.Logic.{⊎_elim}
 use native.Mathlib.Omega.{arith}
-use lib.Dec.{T, eqb, ltb, ltb→lt, lit<}
+use lib.Dec.{eqb, ltb, ltb→lt, lit<}
 use lib.ListN.{get_or, get_or-eq_default}
-use lib.Bits.{bit_xor, xor_lt}
+use lib.Bits.{xor_lt}
 use Rattle.octets.specs.Bytes.{Below, Bytes}
-use Rattle.octets.specs.Words.{b0, b1, b2, b3, word, word_at, words}
+use Rattle.octets.specs.Words.{b0, b1, b2, b3, words}
 use Rattle.octets.proofs.Bytes.{below_nil, below_cons, below_append, bytes-xors, bytes-word_bytes}
 use Rattle.octets.proofs.Lists.{le_or_lt}
-use Rattle.octets.proofs.Tables.{all, all_at}
+use Rattle.octets.proofs.Tables.{all_at}
 use Rattle.aes_spec.specs.Field.{xtimes}
 use Rattle.aes_spec.specs.SBox.{sbox_table, sbox}
 use Rattle.aes_spec.specs.KeyExpansion.{sub_word, rot_word, power_of_x, rcon, temp, expansion, key_expansion}
-use Rattle.aes_spec.specs.Cipher.{sub_bytes, shift_rows, add_round_key, after_rounds, cipher, aes}
+use Rattle.aes_spec.specs.Cipher.{sub_bytes, shift_rows, add_round_key, cipher, aes}
 
 -- ---- the S-box
 

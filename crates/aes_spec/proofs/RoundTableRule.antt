@@ -1,9 +1,7 @@
 -- The rule of the table for the rounds, by one test over the whole table.
 -- Assumes nothing.
 use Prim.Native.Nat.{ℕ, ◌<◌}
-use mathlib.Core.Path.{◌≡◌, sym, subst}
 use mathlib.Core.Bool.{Bool, ◌&&◌}
-use mathlib.Core.List.{List}
 use lib.Dec.{T, eqb, eqb→eq}
 use lib.ListN.{get_or}
 use Rattle.octets.specs.Words.{b0, b1, b2, b3, HasBytes}

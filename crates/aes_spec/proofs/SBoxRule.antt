@@ -1,7 +1,7 @@
 -- The S-box's table obeys the rule of FIPS 197, 5.1.1, at all of its 256 entries, and the rule's inverse is one: each by
 -- one test that the checker computes.
 -- Assumes nothing.
-use Prim.Native.Nat.{ℕ, suc, ◌+◌, ◌<◌}
+use Prim.Native.Nat.{ℕ, ◌+◌, ◌<◌}
 use mathlib.Core.Path.{◌≡◌, refl}
 use mathlib.Core.Bool.{Bool}
 use lib.Dec.{T, eqb, eqb→eq}

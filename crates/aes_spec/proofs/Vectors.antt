@@ -1,7 +1,7 @@
 -- The example vectors of FIPS 197, worked out from the definitions: the ciphers of appendix C of the edition of 2001, and the
 -- last round keys of appendix A.
 -- Assumes nothing.
-use Prim.Native.Nat.{ℕ, zero, suc, ◌+◌}
+use Prim.Native.Nat.{ℕ, zero, suc}
 use mathlib.Core.List.{List, [], ◌∷◌}
 use mathlib.Core.Path.{◌≡◌, refl}
 use lib.ListN.{drop}

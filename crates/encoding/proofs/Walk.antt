@@ -12,7 +12,7 @@ use lib.Seq.{get_or_at, take_at, take-length}
 use borrow.Author.Tests.{eq-eqb, ne_eqb, eqb-true, le-leb, leb-true, lt-ltb, ltb-true, not-true}
 use Rattle.octets.proofs.Equality.{and_true, true_false}
 use Rattle.octets.proofs.Lists.{le_or_lt}
-use Rattle.encoding.specs.Base64url.{alphabet, place, octets, value, known, pad, pad_character, body, whole, accepted, decoded}
+use Rattle.encoding.specs.Base64url.{alphabet, place, octets, value, known, pad, pad_character, body, accepted, decoded}
 use Rattle.encoding.proofs.Characters.{known_at, no_padding}
 use Rattle.encoding.proofs.Sextets.{length-octets}
 use Rattle.encoding.proofs.Padding.{whole-pad, body-pad, pad-body, length-pad, four_ways}

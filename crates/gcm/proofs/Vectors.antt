@@ -1,12 +1,10 @@
 -- Of the GCM submission to NIST: the product X1 of test case 2, and the test cases 13, 14 and 16 (AES-256), worked out from the
 -- definitions. Case 16 has associated data and a last block that is not full.
 -- Assumes nothing.
-use Prim.Native.Nat.{ℕ, zero, suc, ◌+◌}
-use mathlib.Core.Bool.{true}
-use mathlib.Core.List.{List, [], ◌∷◌, ◌++◌}
+use Prim.Native.Nat.{ℕ}
+use mathlib.Core.List.{List, [], ◌++◌}
 use mathlib.Core.Path.{◌≡◌, refl}
 use lib.ListN.{replicate}
-use Rattle.octets.specs.Bytes.{same}
 use Rattle.octets.specs.BigEndian.{int_from, int, be}
 use Rattle.octets.specs.Words.{words, word_bytes}
 use Rattle.octets.specs.Xors.{xors}
@@ -16,7 +14,7 @@ use Rattle.aes_spec.specs.KeyExpansion.{sub_word, rot_word, power_of_x, rcon, te
 use Rattle.aes_spec.specs.Cipher.{sub_bytes, shift_rows, mix_columns, add_round_key, after_rounds, cipher, aes}
 use Rattle.ctr.specs.Ctr.{inc32, keystream, ctr}
 use Rattle.gcm.specs.Field.{next, mul_from, mul}
-use Rattle.gcm.specs.Gcm.{ghash_from, ghash, pad, subkey, j0, crypt, hashed, tag, seal, good, plain}
+use Rattle.gcm.specs.Gcm.{ghash_from, ghash, pad, subkey, j0, crypt, hashed, tag, seal}
 
 product_2 : mul 0x0388dace60b6a392f328c2b971b2fe78 0x66e94bd4ef8a2c3b884cfa59ca342b2e ≡ 0x5e2ec746917062882c85b0685353deb7
 unfolding next mul_from mul

@@ -2,10 +2,9 @@
 -- By 5.2.1.1 a text has at most 2^36 - 32 bytes and the associated data fewer than 2^61: beyond that nothing here is the
 -- standard's. Opening (7.2) shares its steps 2, 3 and 5 to 7 with sealing (7.1, steps 1, 2 and 4 to 6).
 -- Assumes nothing.
-use Rattle.std.specs.Prelude.{ℕ, zero, suc, ◌+◌, ◌-◌, ◌*◌, ◌/◌, ◌%◌, ◌^◌, List, [], ◌∷◌, ◌++◌, Bool, take, drop, length, replicate}
+use Rattle.std.specs.Prelude.{ℕ, zero, suc, ◌-◌, ◌*◌, ◌/◌, List, [], ◌∷◌, ◌++◌, Bool, take, drop, length, replicate}
 use Rattle.std.specs.Int.Bits.{bit_xor}
 use Rattle.octets.specs.Bytes.{same}
-use Rattle.octets.specs.Xors.{xors}
 use Rattle.octets.specs.BigEndian.{int, be}
 use Rattle.ctr.specs.Ctr.{blocks, inc32, ctr}
 use Rattle.gcm.specs.Field.{mul}

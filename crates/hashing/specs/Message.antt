@@ -1,7 +1,7 @@
 -- What SHA-1 and SHA-256 share: a message, a byte string, is padded to whole blocks of 64 bytes (FIPS 180-4, 5.1.1), cut into blocks (5.2.1),
 -- and hashed block by block (6.1.2 and 6.2.2) by a function `compress` of the hash value so far and a block.
 -- Assumes nothing.
-use Rattle.std.specs.Prelude.{ℕ, zero, suc, ◌-◌, ◌*◌, ◌/◌, ◌%◌, List, [], ◌∷◌, ◌++◌, length, take, drop, replicate}
+use Rattle.std.specs.Prelude.{ℕ, zero, suc, ◌-◌, ◌*◌, ◌/◌, ◌%◌, List, ◌∷◌, ◌++◌, length, take, drop, replicate}
 use Rattle.octets.specs.BigEndian.{be}
 use Rattle.octets.specs.Words.{word_bytes}
 

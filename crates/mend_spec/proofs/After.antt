@@ -1,10 +1,10 @@
 -- The file after a mend that succeeded: its chunks, its cleartext, and what reads give.
 -- Assumes nothing.
 use mathlib.Core.Path.{◌≡◌, refl, sym, ap, ap₂, ◌∙◌, subst}
-use mathlib.Core.Bool.{Bool, true, false, cond}
+use mathlib.Core.Bool.{Bool, true, cond}
 use mathlib.Core.Logic.{◌⊎◌, inl, inr, ⊎_elim}
 use mathlib.Core.List.{List, [], ◌∷◌, ◌++◌}
-use Prim.Native.Nat.{ℕ, zero, suc, ◌+◌, ◌-◌, ◌*◌, ◌/◌, ◌≤◌, ◌<◌, min}
+use Prim.Native.Nat.{ℕ, zero, suc, ◌+◌, ◌-◌, ◌*◌, ◌/◌, ◌≤◌, ◌<◌}
 use native.Mathlib.Nat.{mul-suc, mul-le-mul_left}
 use native.Mathlib.Omega.{arith}
 use lib.ListN.{length, take, drop, get_or, length-drop}
@@ -13,7 +13,7 @@ use Rattle.octets.specs.Bytes.{Bytes, filled, placed}
 use Rattle.octets.specs.Rows.{Outcome, done, refused, refused_at, answer, leaves, End, ended, ending, Succeeded}
 use Rattle.octets.proofs.Lists.{le_or_lt}
 use Rattle.octets.proofs.Bytes.{below_take, below_drop}
-use Rattle.frame.specs.Layout.{Sizes, chunk_size, chunks, covering, file_length, clear_length, right_length, header_at, chunk_at, Inside, Covers, lowest_bad, all_parts}
+use Rattle.frame.specs.Layout.{Sizes, chunk_size, chunks, covering, file_length, clear_length, header_at, chunk_at, Covers, lowest_bad, all_parts}
 use Rattle.frame.specs.Frame.{Head, HeadFits, Codec, head_in, clear_of, bad_chunk, range_rows, read_range, open_file}
 use Rattle.frame.specs.Laws.{Laws}
 use Rattle.frame.specs.Rules.{piece}
@@ -21,7 +21,7 @@ use Rattle.frame.specs.Statements.{Room}
 use Rattle.frame.proofs.Lengths.{file-clear}
 use Rattle.frame.proofs.Pieces.{covers_all, covers_count, covers_some, covering-end, chunk_length, bytes_chunk, below_good, all_parts_lem, join_parts, length-clear, clear-piece}
 use Rattle.frame.proofs.Success.{Reads, succeeded, succeeds, head_alike, opening_is_reading}
-use Rattle.mend_spec.specs.Mend.{patched, chunk_start, resealed, mended_from, mended, mend_rows, mend_file}
+use Rattle.mend_spec.specs.Mend.{patched, chunk_start, resealed, mended, mend_rows, mend_file}
 use Rattle.mend_spec.specs.Statements.{Mending, after, MendedChunks, MendedRest, MendBytes, MendedOpens, MendedReads, MendedReadsBack}
 use Rattle.octets.proofs.Placed.{placed-length, drop-part}
 use Rattle.mend_spec.proofs.Patches.{patched_none, patched-bytes_below, patched-parts}

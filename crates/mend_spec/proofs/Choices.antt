@@ -6,8 +6,7 @@ use mathlib.Core.List.{List, [], ◌∷◌}
 use Prim.Native.Nat.{ℕ, ◌+◌, ◌-◌, ◌*◌, ◌/◌, ◌≤◌, ◌<◌}
 use native.Mathlib.Nat.{mul-add, mul-le-mul_left}
 use native.Mathlib.Omega.{arith}
-use lib.ListN.{length, take}
-use Rattle.octets.specs.Bytes.{placed}
+use lib.ListN.{length}
 use Rattle.octets.proofs.Placed.{placed-length, below_placed}
 use Rattle.octets.proofs.Rows.{succeeds_exactly}
 use Rattle.octets.proofs.Tests.{self}

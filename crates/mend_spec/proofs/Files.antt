@@ -1,9 +1,8 @@
 -- The file of a choice, mended, is the file of the choice with the range and the covering chunks' nonces replaced.
 -- Assumes nothing.
 use mathlib.Core.Path.{◌≡◌, refl, sym, ap, ◌∙◌, subst}
-use mathlib.Core.Bool.{true}
 use mathlib.Core.Logic.{◌⊎◌, inl, inr, ⊎_elim}
-use mathlib.Core.List.{List, [], ◌∷◌, ◌++◌}
+use mathlib.Core.List.{List, [], ◌∷◌}
 use Prim.Native.Nat.{ℕ, suc, ◌+◌, ◌-◌, ◌*◌, ◌/◌, ◌≤◌, ◌<◌}
 use native.Mathlib.Nat.{mul-zero, mul-suc, mul-add, mul-le-mul_left, le_of_eq, zero-add}
 use native.Mathlib.Omega.{arith}
@@ -11,17 +10,16 @@ use lib.ListN.{length, take, drop, replicate, length-drop, length-replicate}
 use lib.Seq.{drop-drop, drop-append-le, take-append-le}
 use Rattle.octets.specs.Bytes.{Bytes, placed}
 use Rattle.octets.specs.Rows.{End, Succeeded}
-use Rattle.frame.specs.Layout.{chunk_size, chunks, covering, clear_length, right_length, file_length, chunk_at, all_parts}
-use Rattle.frame.specs.Frame.{Head, Codec, Choice, Fits, file_of, head_in, clear_of, open_file}
+use Rattle.frame.specs.Layout.{chunk_size, chunks, covering, clear_length, right_length, chunk_at, all_parts}
+use Rattle.frame.specs.Frame.{Codec, Choice, Fits, file_of, head_in, clear_of, open_file}
 use Rattle.frame.specs.Laws.{Laws}
 use Rattle.frame.specs.Statements.{Room}
-use Rattle.frame.proofs.Lengths.{file-clear}
 use Rattle.frame.proofs.Pieces.{covers_end, all_parts_lem, join_parts, nonce_of, length-nonces, nonce-piece}
 use Rattle.frame.proofs.Filling.{part-take}
 use Rattle.frame.proofs.Written as written
 use Rattle.frame.proofs.Files.{opens_exactly}
 use Rattle.mend_spec.specs.Mend.{mended_choice, mended}
-use Rattle.mend_spec.specs.Statements.{Mending, after, MendedFile}
+use Rattle.mend_spec.specs.Statements.{Mending, MendedFile}
 use Rattle.octets.proofs.Placed.{placed-length, drop-part, drop-behind, take_ahead}
 use Rattle.mend_spec.proofs.Ends.{Mends}
 use Rattle.mend_spec.proofs.After.{g_length, g_shaped, g_head, g_bytes, g_other, g_chunk, head-fits, nonce_long, either, shaped, clear-mended, g_opens, mends_of, after_is}

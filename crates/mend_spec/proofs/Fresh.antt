@@ -1,18 +1,18 @@
 -- The nonces of the chunks that a mend sealed again are new, and differ; and the statements on a mend, together.
 -- Assumes nothing.
-use mathlib.Core.Path.{◌≡◌, refl, sym, ap, ◌∙◌}
-use mathlib.Core.Logic.{◌⊎◌, inl, inr, ⊎_elim}
+use mathlib.Core.Path.{◌≡◌, sym, ap, ◌∙◌}
+use mathlib.Core.Logic.{◌⊎◌, ⊎_elim}
 use mathlib.Core.List.{List}
 use Prim.Native.Nat.{ℕ, ◌+◌, ◌-◌, ◌/◌, ◌≤◌, ◌<◌}
 use native.Mathlib.Omega.{arith}
 use lib.ListN.{length, take}
 use Rattle.octets.proofs.Lists.{le_or_lt}
-use Rattle.frame.specs.Layout.{chunk_size, chunks, covering, clear_length, chunk_at}
+use Rattle.frame.specs.Layout.{chunk_size, chunks, covering, clear_length}
 use Rattle.frame.specs.Frame.{Codec, head_in}
 use Rattle.frame.specs.Rules.{piece}
 use Rattle.frame.specs.Laws.{Laws}
 use Rattle.frame.proofs.Pieces.{covers_count}
-use Rattle.mend_spec.specs.Mend.{nonce_in, mended}
+use Rattle.mend_spec.specs.Mend.{nonce_in}
 use Rattle.mend_spec.specs.Rules.{FreshNonces}
 use Rattle.mend_spec.specs.Statements.{Mending, after, MendedFresh, MendsExactly}
 use Rattle.mend_spec.proofs.Ends.{Mends}

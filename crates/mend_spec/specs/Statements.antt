@@ -2,7 +2,7 @@
 -- Assumes nothing.
 use Rattle.std.specs.Prelude.{◌≡◌, true, ◌↔◌, ◌⊎◌, List, [], ◌∷◌, ℕ, ◌+◌, ◌-◌, ◌*◌, ◌/◌, ◌≤◌, ◌<◌, length, take, drop, get_or}
 use Rattle.octets.specs.Bytes.{Bytes, filled, placed}
-use Rattle.octets.specs.Rows.{done, refused, refused_at, EndsBy, numbers, End, ended, ending, Succeeded}
+use Rattle.octets.specs.Rows.{done, refused, refused_at, EndsBy, numbers, ended, ending, Succeeded}
 use Rattle.frame.specs.Layout.{Sizes, clear_length, header_at, chunk_at, Inside, Covers, Alike}
 use Rattle.frame.specs.Frame.{Codec, Choice, Fits, file_of, head_in, clear_of, read_range, open_file}
 use Rattle.frame.specs.Rules.{piece, FileLength, chunk_count}

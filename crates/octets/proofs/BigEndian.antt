@@ -1,6 +1,6 @@
 -- Laws of numbers as byte strings, and of words.
 -- Assumes nothing.
-use Prim.Native.Nat.{ℕ, zero, suc, ◌+◌, ◌-◌, ◌*◌, ◌/◌, ◌%◌, ◌^◌, ◌<◌}
+use Prim.Native.Nat.{ℕ, zero, suc, ◌+◌, ◌*◌, ◌/◌, ◌%◌, ◌^◌, ◌<◌}
 use mathlib.Core.Path.{◌≡◌, refl, sym, ◌∙◌, ap, ap₂}
 use mathlib.Core.List.{List, [], ◌∷◌, ◌++◌, append_assoc, append-nil}
 use native.Mathlib.Omega.{arith}
@@ -9,7 +9,7 @@ use lib.Pow.{pow_pos}
 use lib.Arith.{mod-mul, digits_div, digits_mod}
 use lib.ListN.{length, length-append}
 use Rattle.octets.specs.Bytes.{Bytes}
-use Rattle.octets.specs.Words.{word, word_at, b0, b1, b2, b3, word_bytes}
+use Rattle.octets.specs.Words.{word_at, b0, b1, b2, b3, word_bytes}
 use Rattle.octets.proofs.Words.{parts}
 use Rattle.octets.proofs.Bytes.{below_drop, bytes-be}
 use Rattle.octets.specs.BigEndian.{int_from, int, be}

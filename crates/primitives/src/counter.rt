@@ -8,12 +8,7 @@ use ctr::crypt128;
 use ctr::in_place::{crypt_in_place, crypt128_in_place};
 
 // The text with the key stream added.
-pub fn primitives_ctr128(
-    key: &[u8],
-    first_counter: &[u8],
-    text: &[u8],
-    out: &mut [u8],
-) -> u32
+pub fn primitives_ctr128(key: &[u8], first_counter: &[u8], text: &[u8], out: &mut [u8]) -> u32
     ensures { end result out.new ≡ ctr128 key.now first_counter.now text.now out.old }
 {
     if key.len() != 32 {
@@ -34,12 +29,7 @@ pub fn primitives_ctr128(
 }
 
 // The text with the key stream added, in its place. The whole counter block counts if `wide` is not 0, and its last word if it is.
-pub fn primitives_ctr_in_place(
-    key: &[u8],
-    first_counter: &[u8],
-    wide: u32,
-    text: &mut [u8],
-) -> u32
+pub fn primitives_ctr_in_place(key: &[u8], first_counter: &[u8], wide: u32, text: &mut [u8]) -> u32
     ensures { end result text.new ≡ ctr_in_place key.now first_counter.now wide text.old }
 {
     if key.len() != 32 {

@@ -1,6 +1,6 @@
 -- SP 800-38B: CMAC with a tag of 16 bytes; e is the block cipher under its key, on 16 bytes. To add is exclusive or.
 -- Assumes nothing.
-use Rattle.std.specs.Prelude.{ℕ, zero, suc, ◌-◌, ◌*◌, ◌/◌, ◌%◌, ◌^◌, List, [], ◌∷◌, ◌++◌, cond, take, drop, length, replicate, eqb}
+use Rattle.std.specs.Prelude.{ℕ, zero, suc, ◌-◌, ◌*◌, ◌/◌, ◌%◌, ◌^◌, List, ◌∷◌, ◌++◌, cond, take, drop, length, replicate, eqb}
 use Rattle.std.specs.Int.Bits.{bit_xor}
 use Rattle.octets.specs.Xors.{xors}
 use Rattle.octets.specs.BigEndian.{int, be}

@@ -4,7 +4,6 @@ use mathlib.Core.Path.{◌≡◌, sym, ap}
 use Rattle.octets.specs.Rows.{number}
 use Rattle.answer.specs.declared.Refusal.{Refusal}
 use Rattle.answer.specs.Meaning.{row}
-use borrow.Author.Rules.{rules}
 use Rattle.answer.proofs.row_number.Goals as goal
 
 -- The refusal is of this variant.

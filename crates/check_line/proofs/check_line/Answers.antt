@@ -10,7 +10,6 @@ use Rattle.octets.specs.Rows.{Outcome, End, ended}
 use Rattle.check_line.specs.Line.{line_of}
 use Rattle.check_line.specs.Check.{check_vault, check_line, checked, check}
 use Rattle.check_line.proofs.Checks.{never_room, line-fits}
-use borrow.Author.Rules.{rules}
 use Rattle.check_line.proofs.check_line.Goals as goal
 
 -- the line of the outcome that the check ends in

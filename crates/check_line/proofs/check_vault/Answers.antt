@@ -2,7 +2,7 @@
 -- Assumes nothing.
 use mathlib.Core.Path.{◌≡◌, refl, sym, ap, ap₂, ◌∙◌}
 use mathlib.Core.List.{List}
-use Prim.Native.Nat.{ℕ, ◌-◌}
+use Prim.Native.Nat.{ℕ}
 use native.Mathlib.Omega.{arith}
 use borrow.Author.Tests.{lt-ltb, le-ltb}
 use lib.ListN.{length, take, drop, length-drop}
@@ -17,7 +17,6 @@ use Rattle.vault.specs.Vault.{vault_with, codec_of}
 use Rattle.vault.specs.Making.{Making}
 use Rattle.vault.proofs.Making.{made}
 use Rattle.check_line.specs.Check.{check_vault}
-use borrow.Author.Rules.{rules}
 use Rattle.check_line.proofs.check_vault.Goals as goal
 
 pub returns-then-input-lt64 : goal.returns-then-input-lt64

@@ -1,6 +1,6 @@
 -- `apply`: a whole block by words, a part of one by bytes.
 -- Assumes nothing.
-use Rattle.std.proofs.Common.{◌≡◌, ℕ, List, drop, ap, ◌∙◌, arith, rules}
+use Rattle.std.proofs.Common.{◌≡◌, ℕ, List, drop, ap, ◌∙◌, arith}
 use Rattle.octets.specs.Xors.{xors}
 use Rattle.octets.proofs.Lists.{placed_all}
 use Rattle.aes_spec.specs.Cipher.{cipher}

@@ -1,6 +1,6 @@
 -- `crypt_from`: after each turn the first j bytes of out are those of the text.
 -- Assumes nothing.
-use Rattle.std.proofs.Common.{◌≡◌, ℕ, ◌-◌, ◌≤◌, List, ◌++◌, length, take, drop, refl, ap, ◌∙◌, append-nil, arith, rules}
+use Rattle.std.proofs.Common.{◌≡◌, ℕ, List, ◌++◌, length, take, drop, refl, ap, ◌∙◌, append-nil, arith, rules}
 use lib.Seq.{drop-length}
 use Rattle.octets.specs.Bytes.{filled}
 use Rattle.aes_spec.specs.Cipher.{cipher}

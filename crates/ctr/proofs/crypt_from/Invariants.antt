@@ -1,13 +1,10 @@
 -- `crypt_from`: after each turn the first j bytes of out are those of the text.
 -- Assumes nothing.
-use Rattle.std.proofs.Common.{◌≡◌, ℕ, ◌-◌, ◌≤◌, List, ◌++◌, length, take, drop, refl, ap, ◌∙◌, append-nil, arith, rules}
-use lib.Seq.{drop-length}
+use Rattle.std.proofs.Common.{◌≡◌, ◌-◌, ◌≤◌, length, drop}
 use Rattle.octets.specs.Bytes.{filled}
 use Rattle.aes_spec.specs.Cipher.{cipher}
 use Rattle.aes.specs.Blocks.{state}
-use Rattle.aes.proofs.Ciphers.{length-cipher}
 use Rattle.ctr.specs.Ctr as spec
-use Rattle.ctr.proofs.Texts.{text_more}
 use Rattle.ctr.proofs.crypt_from.Given as goal
 
 abbrev pub invariant-loop-j : goal.invariant-loop-j

@@ -1,6 +1,6 @@
 -- `part`: the bytes of the enciphered block from its byte r on are added.
 -- Assumes nothing.
-use Rattle.std.proofs.Common.{◌≡◌, ◌-◌, length, take, drop, ap, ◌∙◌, rules}
+use Rattle.std.proofs.Common.{◌≡◌, ◌-◌, length, take, drop, ap, ◌∙◌}
 use Rattle.octets.specs.Words.{word_bytes}
 use Rattle.octets.specs.Xors.{xors}
 use Rattle.octets.proofs.Lists.{part-rest}

@@ -1,6 +1,6 @@
 -- `whole`: word by word, each to its place.
 -- Assumes nothing.
-use Rattle.std.proofs.Common.{ap, ◌∙◌, arith, rules}
+use Rattle.std.proofs.Common.{ap, ◌∙◌, arith}
 use Rattle.octets.specs.Words.{word_bytes}
 use Rattle.octets.specs.Xors.{xors}
 use Rattle.ctr.proofs.WholeBlocks.{xor_block}

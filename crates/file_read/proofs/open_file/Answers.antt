@@ -1,6 +1,5 @@
 -- `open_file`: opening is reading the range of the whole cleartext.
 -- Assumes nothing.
-use borrow.Author.Rules.{rules}
 use Prim.Native.Nat.{ℕ}
 use mathlib.Core.Path.{sym, ap, ◌∙◌}
 use lib.ListN.{length}

@@ -13,7 +13,6 @@ use Rattle.vault.specs.Vault.{sizes_of}
 use Rattle.vault.specs.Under.{sealed_under}
 use Rattle.vault.proofs.Combos.{codec_by_lem}
 use Rattle.file_write.proofs.Ends.{front_length, two-parts}
-use borrow.Author.Rules.{rules}
 use Rattle.file_write.proofs.seal_file.Goals as goal
 
 pub slice_bounds-seal_header-end : goal.slice_bounds-seal_header-end

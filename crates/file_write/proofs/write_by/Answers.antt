@@ -16,7 +16,6 @@ use Rattle.frame.proofs.KeySizes.{keys_exactly}
 use Rattle.vault.specs.Vault.{sizes_of, codec_with}
 use Rattle.vault.proofs.Combos.{small_nonce, codec_by, codec_by_lem}
 use Rattle.file_write.proofs.Ends.{sizes_right, sizes_facts, row_1, row_4, row_7, row_8, no_row, front_length}
-use borrow.Author.Rules.{rules}
 use Rattle.file_write.proofs.write_by.Goals as goal
 
 pub sizes_right-requires : goal.sizes_right-requires

@@ -8,7 +8,6 @@ use lib.ListN.{length, replicate}
 use Rattle.octets.specs.Bytes.{placed}
 use Rattle.octets.proofs.Lists.{drop_all}
 use Rattle.frame.specs.Frame.{payload_of, own_head}
-use borrow.Author.Rules.{rules}
 use Rattle.frame.proofs.own_payload.Goals as goal
 
 behind : (k : List ℕ) → length k ≡ 32 → placed k 8 (replicate 40 255) ≡ payload_of (own_head [] k)

@@ -1,6 +1,6 @@
 -- `key_block`: the key, or its hash, at the front of zeros.
 -- Assumes nothing.
-use Prim.Native.Nat.{ℕ, ◌-◌, ◌≤◌}
+use Prim.Native.Nat.{ℕ, ◌≤◌}
 use mathlib.Core.Path.{◌≡◌, ◌∙◌, sym, ap}
 use mathlib.Core.List.{List, ◌++◌}
 use native.Mathlib.Omega.{arith}
@@ -12,7 +12,6 @@ use Rattle.sha256.specs.Message.{sha256}
 use Rattle.sha256.proofs.Laws.{thirty_two_bytes}
 use Rattle.hmac.specs.Hmac.{to_block}
 use Rattle.hmac.proofs.Laws.{short-key, long_key}
-use borrow.Author.Rules.{rules}
 use Rattle.hmac.proofs.key_block.Goals as goal
 
 -- At the front of a block of zeros.

@@ -7,7 +7,6 @@ use Rattle.octets.specs.Xors.{xors}
 use Rattle.sha256.specs.Message.{sha256}
 use Rattle.sha256.proofs.Laws.{runs_on, ends_in_digest}
 use Rattle.hmac.specs.Hmac.{ipad, opad, hmac}
-use borrow.Author.Rules.{rules}
 use Rattle.hmac.proofs.mac.Goals as goal
 
 pub returns : goal.returns

@@ -1,7 +1,5 @@
 -- `unwrap_key`: the tests in the rows' order, and the key at the front of the buffer, or the buffer as it was.
 -- Assumes nothing.
-use borrow.Author.Rules.{rules}
-use Prim.Native.Nat.{◌≤◌}
 use mathlib.Core.Path.{◌≡◌, sym, ap, ◌∙◌}
 use mathlib.Core.Bool.{Bool, false, not, cond}
 use mathlib.Core.List.{[], ◌∷◌}

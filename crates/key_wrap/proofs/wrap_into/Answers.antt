@@ -1,6 +1,5 @@
 -- `wrap_into`: under the schedule of the key-encryption key.
 -- Assumes nothing.
-use borrow.Author.Rules.{rules}
 use mathlib.Core.Path.{◌∙◌}
 use Rattle.key_wrap.proofs.Parts.{wrapped_under}
 use Rattle.key_wrap.proofs.wrap_into.Goals as goal

@@ -1,7 +1,5 @@
 -- `wrap_key`: the tests in the rows' order, and the wrapped key at the front of the buffer.
 -- Assumes nothing.
-use borrow.Author.Rules.{rules}
-use Prim.Native.Nat.{◌≤◌}
 use mathlib.Core.Path.{◌≡◌, sym, ap, ap₂, ◌∙◌}
 use mathlib.Core.Bool.{Bool, false, not, ◌&&◌}
 use mathlib.Core.List.{[], ◌∷◌}

@@ -1,6 +1,6 @@
 -- `hash_blocks`: i blocks are hashed.
 -- Assumes nothing.
-use Rattle.std.proofs.Common.{◌≡◌, ◌-◌, ◌≤◌, refl, ◌∙◌, add-one, arith, rules}
+use Rattle.std.proofs.Common.{◌≡◌, ◌-◌, ◌≤◌}
 use Rattle.hashing.specs.Message.{hash_from}
 use Rattle.sha1_hash.specs.Compression.{compress}
 use Rattle.sha1_hash.proofs.hash_blocks.Given as goal

@@ -1,6 +1,6 @@
 -- `digest`: the message in one part.
 -- Assumes nothing.
-use Rattle.std.proofs.Common.{[], ◌∙◌, rules}
+use Rattle.std.proofs.Common.{[], ◌∙◌}
 use Rattle.sha256.proofs.Laws.{runs_on, ends_in_digest}
 use Rattle.sha256.proofs.digest.Goals as goal
 

@@ -1,8 +1,7 @@
 -- `hash_blocks`: i blocks are hashed.
 -- Assumes nothing.
-use Rattle.std.proofs.Common.{◌≡◌, ◌-◌, ◌≤◌, refl, ◌∙◌, add-one, arith, rules}
+use Rattle.std.proofs.Common.{◌≡◌, refl, ◌∙◌, add-one, arith, rules}
 use Rattle.hashing.specs.Message.{hash_from}
-use Rattle.sha256.specs.Compression.{compress}
 use Rattle.sha256.proofs.hash_blocks.Goals as goal
 
 pub loop-i-init : goal.loop-i-init

@@ -1,7 +1,6 @@
 -- `any_tails`: the range of any tail.
 -- Assumes nothing.
 use native.Mathlib.Omega.{arith}
-use borrow.Author.Rules.{rules}
 use Rattle.utf8.proofs.any_tails.Goals as goal
 
 pub returns : goal.returns

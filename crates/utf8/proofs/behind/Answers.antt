@@ -2,7 +2,6 @@
 -- Assumes nothing.
 use mathlib.Core.Path.{sym, ◌∙◌}
 use native.Mathlib.Omega.{arith}
-use borrow.Author.Rules.{rules}
 use Rattle.utf8.proofs.FirstByte.{behind_stray, behind-two}
 use Rattle.utf8.proofs.behind.Goals as goal
 

@@ -2,7 +2,6 @@
 -- Assumes nothing.
 use mathlib.Core.Path.{sym, ◌∙◌}
 use native.Mathlib.Omega.{arith}
-use borrow.Author.Rules.{rules}
 use Rattle.utf8.proofs.FirstByte.{behind_f0, behind_four, behind_f4, behind_none}
 use Rattle.utf8.proofs.behind_four.Goals as goal
 

@@ -2,7 +2,6 @@
 -- Assumes nothing.
 use mathlib.Core.Path.{sym, ◌∙◌}
 use native.Mathlib.Omega.{arith}
-use borrow.Author.Rules.{rules}
 use Rattle.utf8.proofs.FirstByte.{behind_e0, behind_ed, behind_three}
 use Rattle.utf8.proofs.behind_three.Goals as goal
 

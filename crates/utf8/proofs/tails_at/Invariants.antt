@@ -1,23 +1,13 @@
 -- `tails_at`: tail after tail, the tails still awaited stand here exactly when all that were awaited stand at the start.
 -- Assumes nothing.
-use Prim.Native.Nat.{ℕ, zero, suc, ◌+◌, ◌-◌, ◌<◌, ◌≤◌}
-use mathlib.Core.Path.{◌≡◌, refl, sym, ap, ap₂, ◌∙◌}
-use mathlib.Core.Bool.{false, and-false}
-use mathlib.Core.List.{List, [], ◌∷◌}
-use native.Mathlib.Numerals.{add-one}
-use native.Mathlib.Omega.{arith}
-use lib.ListN.{length, drop, get_or, length-drop}
-use lib.Seq.{drop-cons}
-use borrow.Author.Rules.{rules}
-use borrow.Author.Tests.{ne_eqb}
-use Rattle.octets.proofs.Equality.{true_false}
-use Rattle.utf8.specs.ProperText.{lacks}
+use Prim.Native.Nat.{◌+◌, ◌-◌, ◌≤◌}
+use mathlib.Core.Path.{◌≡◌}
+use lib.ListN.{length, drop}
 use Rattle.utf8.specs.Continued.{tails_from, Passed}
-use Rattle.utf8.proofs.Ranges.{ranged, under, over}
 use Rattle.utf8.proofs.tails_at.Given as goal
 
 abbrev pub invariant-loop-k : goal.invariant-loop-k
-invariant-loop-k l =    (l.k ≤ l.n) × (l.j + l.n ≤ length l.s) × (0x80 ≤ l.low) × (tails_from l.n l.initial.low l.initial.high (drop l.j l.s) ≡ tails_from (l.n - l.k) l.low l.high (drop (l.j + l.k) l.s)) × Passed l.s l.j (l.j + l.k)
+invariant-loop-k l = (l.k ≤ l.n) × (l.j + l.n ≤ length l.s) × (0x80 ≤ l.low) × (tails_from l.n l.initial.low l.initial.high (drop l.j l.s) ≡ tails_from (l.n - l.k) l.low l.high (drop (l.j + l.k) l.s)) × Passed l.s l.j (l.j + l.k)
 
 abbrev pub decreases-loop-k : goal.decreases-loop-k
 decreases-loop-k l = l.n - l.k

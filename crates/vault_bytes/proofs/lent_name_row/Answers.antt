@@ -5,7 +5,6 @@ use borrow.Author.Tests.{eq-eqb, ne_eqb, not-true, not-false}
 use lib.ListN.{get_or}
 use Rattle.threshold.specs.Threshold.{threshold_right}
 use Rattle.vault_bytes.specs.VaultBytes.{threshold_place, lent_name_row}
-use borrow.Author.Rules.{rules}
 use Rattle.vault_bytes.proofs.lent_name_row.Goals as goal
 
 pub returns-then-bytes-ne-VAULT_SIZE : goal.returns-then-bytes-ne-VAULT_SIZE

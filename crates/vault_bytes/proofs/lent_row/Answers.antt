@@ -4,7 +4,6 @@ use mathlib.Core.Path.{◌≡◌, sym, ap, ◌∙◌}
 use borrow.Author.Tests.{eq-eqb, ne_eqb}
 use lib.ListN.{get_or}
 use Rattle.vault_bytes.specs.VaultBytes.{combo_known, lent_row}
-use borrow.Author.Rules.{rules}
 use Rattle.vault_bytes.proofs.lent_row.Goals as goal
 
 pub returns-then-bytes-ne-VAULT_SIZE : goal.returns-then-bytes-ne-VAULT_SIZE

@@ -19,7 +19,6 @@ use Rattle.frame.proofs.KeySizes.{master_sizes}
 use Rattle.vault_bytes.specs.VaultBytes.{vault_size, combo_place, combo_known, joined, store_vault_rows, store_vault}
 use Rattle.vault_bytes.proofs.Combos.{small}
 use Rattle.vault_bytes.proofs.Storing.{placed-joined, stored}
-use borrow.Author.Rules.{rules}
 use Rattle.vault_bytes.proofs.store_vault.Goals as goal
 
 -- the end, by its rows

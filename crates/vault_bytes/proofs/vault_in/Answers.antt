@@ -1,6 +1,6 @@
 -- `vault_in`: the two keys, the combo and the threshold, each from its place.
 -- Assumes nothing.
-use Prim.Native.Nat.{ℕ, ◌-◌}
+use Prim.Native.Nat.{ℕ}
 use mathlib.Core.Path.{sym, ap, ap₂, ◌∙◌}
 use mathlib.Core.List.{List}
 use native.Mathlib.Omega.{arith}
@@ -10,7 +10,6 @@ use Rattle.octets.proofs.Lists.{placed_all}
 use Rattle.vault.specs.declared.record.Combo.{Combo}
 use Rattle.vault.specs.Vault.{vault_with}
 use Rattle.vault_bytes.specs.VaultBytes.{threshold_place, combo_of, vault_in}
-use borrow.Author.Rules.{rules}
 use Rattle.vault_bytes.proofs.vault_in.Goals as goal
 
 pub returns : goal.returns

@@ -1,7 +1,6 @@
 -- `column`: four entries of the table, rotated, and the key's word.
 -- Assumes nothing.
 use mathlib.Core.Path.{subst}
-use borrow.Author.Rules.{rules}
 use Rattle.octets.specs.Words.{b0, b1, b2, b3}
 use Rattle.aes.proofs.Columns.{Entry, column}
 use Rattle.aes.proofs.block.column.Goals as goal

@@ -1,14 +1,9 @@
 -- `encrypt`: after n turns the state is that of n rounds.
 -- Assumes nothing.
-use Prim.Native.Nat.{ℕ, suc, ◌+◌, ◌-◌, ◌≤◌}
-use mathlib.Core.List.{List}
-use mathlib.Core.Path.{◌≡◌, refl, ◌∙◌, ap, sym}
-use borrow.Author.Rules.{rules}
-use native.Mathlib.Numerals.{add-one}
-use native.Mathlib.Omega.{arith}
-use Rattle.aes_spec.specs.Cipher.{after_rounds, cipher, add_round_key, mix_columns, shift_rows, sub_bytes}
+use Prim.Native.Nat.{◌-◌, ◌≤◌}
+use mathlib.Core.Path.{◌≡◌}
+use Rattle.aes_spec.specs.Cipher.{after_rounds}
 use Rattle.aes.specs.Blocks.{state}
-use Rattle.aes.proofs.Ciphers.{add_round_key_lem}
 use Rattle.aes.proofs.block.encrypt.Given as goal
 
 abbrev pub invariant-loop-n : goal.invariant-loop-n

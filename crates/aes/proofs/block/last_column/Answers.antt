@@ -1,7 +1,6 @@
 -- `last_column`: four bytes of the S-box, and the key's word.
 -- Assumes nothing.
 use mathlib.Core.Path.{◌∙◌, ap}
-use borrow.Author.Rules.{rules}
 use Rattle.octets.specs.Words.{b0, b1, b2, b3}
 use Rattle.octets.proofs.Words.{renamed}
 use Rattle.aes_spec.specs.SBox.{sbox}

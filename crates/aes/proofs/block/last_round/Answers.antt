@@ -1,7 +1,6 @@
 -- `last_round`: four columns, each with its word of the key.
 -- Assumes nothing.
 use mathlib.Core.Path.{◌∙◌}
-use borrow.Author.Rules.{rules}
 use Rattle.octets.specs.Words.{word_bytes}
 use Rattle.octets.specs.Xors.{xors}
 use Rattle.octets.proofs.Words.{bytes_are}

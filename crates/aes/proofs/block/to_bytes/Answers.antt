@@ -1,6 +1,5 @@
 -- `to_bytes`: the bytes of the four words in order.
 -- Assumes nothing.
-use borrow.Author.Rules.{rules}
 use Rattle.octets.specs.Words.{word_bytes}
 use Rattle.aes.proofs.block.to_bytes.Goals as goal
 

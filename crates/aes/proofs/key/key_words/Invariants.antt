@@ -1,13 +1,10 @@
 -- `key_words`: after i turns the first i words are the key's.
 -- Assumes nothing.
-use Prim.Native.Nat.{ℕ, ◌+◌, ◌-◌, ◌*◌, ◌≤◌, ◌<◌}
-use mathlib.Core.Path.{◌≡◌, refl, ◌∙◌, ap, sym}
-use mathlib.Core.List.{List, ◌++◌}
-use borrow.Author.Rules.{rules}
-use native.Mathlib.Omega.{arith}
-use lib.ListN.{length, drop, set, length-set}
+use Prim.Native.Nat.{◌-◌, ◌≤◌}
+use mathlib.Core.Path.{◌≡◌}
+use mathlib.Core.List.{◌++◌}
+use lib.ListN.{length, drop}
 use Rattle.octets.specs.Words.{words}
-use Rattle.aes.proofs.Schedule.{words_more}
 use Rattle.aes.proofs.key.key_words.Given as goal
 
 abbrev pub invariant-loop-i : goal.invariant-loop-i

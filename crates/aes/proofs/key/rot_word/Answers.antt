@@ -1,6 +1,5 @@
 -- `rot_word`: the bytes in their new places.
 -- Assumes nothing.
-use borrow.Author.Rules.{rules}
 use Rattle.aes_spec.specs.KeyExpansion.{rot_word}
 use Rattle.aes.proofs.key.rot_word.Goals as goal
 

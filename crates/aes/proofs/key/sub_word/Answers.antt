@@ -1,6 +1,5 @@
 -- `sub_word`: the S-box applied to each byte.
 -- Assumes nothing.
-use borrow.Author.Rules.{rules}
 use Rattle.aes_spec.specs.KeyExpansion.{sub_word}
 use Rattle.aes.proofs.key.sub_word.Goals as goal
 

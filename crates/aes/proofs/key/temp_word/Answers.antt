@@ -1,8 +1,7 @@
 -- `temp_word`: the three cases of the definition.
 -- Assumes nothing.
-use Prim.Native.Nat.{ℕ, ◌/◌, ◌-◌}
-use mathlib.Core.Path.{◌≡◌, ◌∙◌, sym, ap, ap₂}
-use borrow.Author.Rules.{rules}
+use Prim.Native.Nat.{ℕ}
+use mathlib.Core.Path.{◌∙◌, sym, ap, ap₂}
 use lib.Bits.{bit_xor}
 use Rattle.octets.specs.Words.{word}
 use Rattle.aes_spec.specs.KeyExpansion.{sub_word, rcon}

@@ -1,6 +1,5 @@
 -- `right24`: the bytes of the rotated word.
 -- Assumes nothing.
-use borrow.Author.Rules.{rules}
 use native.Mathlib.Omega.{arith}
 use Rattle.octets.specs.Words.{b0, b1, b2, b3}
 use Rattle.octets.proofs.Words.{bytes_of_word, parts}

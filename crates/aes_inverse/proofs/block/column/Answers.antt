@@ -2,7 +2,6 @@
 -- Assumes nothing.
 use Prim.Native.Nat.{ℕ}
 use mathlib.Core.Path.{subst}
-use borrow.Author.Rules.{rules}
 use Rattle.octets.specs.Words.{b0, b1, b2, b3}
 use Rattle.aes_inverse.specs.InverseSBox.{inverse_sbox}
 use Rattle.aes_inverse.proofs.Unmixing.{Multiples, summed}

@@ -1,6 +1,5 @@
 -- `last_column`: four bytes of the inverse S-box, and the key's word.
 -- Assumes nothing.
-use borrow.Author.Rules.{rules}
 use mathlib.Core.Path.{◌∙◌, ap}
 use Rattle.octets.proofs.Words.{renamed, xor_bytes, self}
 use Rattle.aes_inverse.specs.InverseSBox.{inverse_sbox}

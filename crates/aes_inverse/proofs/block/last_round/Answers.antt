@@ -1,6 +1,5 @@
 -- `last_round`: four columns, each with its word of the key.
 -- Assumes nothing.
-use borrow.Author.Rules.{rules}
 use mathlib.Core.Path.{◌∙◌}
 use Rattle.octets.specs.Words.{word_bytes}
 use Rattle.octets.specs.Xors.{xors}

@@ -1,7 +1,6 @@
 -- `sub`: the multiples add up to the entry.
 -- Assumes nothing.
 use mathlib.Core.Path.{◌∙◌, ap, ap₂}
-use borrow.Author.Rules.{rules}
 use lib.Bits.{bit_xor}
 use Rattle.aes_spec.specs.SBox.{sbox}
 use Rattle.aes_inverse.specs.InverseSBox.{inverse_sbox}

@@ -1,10 +1,8 @@
 -- `unmix_keys`: at each turn the words from 4 up to i are unmixed.
 -- Assumes nothing.
-use Prim.Native.Nat.{◌-◌, ◌≤◌}
 use mathlib.Core.Path.{◌≡◌, subst}
-use borrow.Author.Rules.{rules}
 use native.Mathlib.Omega.{arith}
-use lib.ListN.{length, length-set}
+use lib.ListN.{length-set}
 use Rattle.aes_inverse.specs.RoundKeys.{UnmixedKeys}
 use Rattle.aes_inverse.proofs.RoundColumns.{none_unmixed, one_unmixed}
 use Rattle.aes_inverse.proofs.unmix.unmix_keys.Goals as goal

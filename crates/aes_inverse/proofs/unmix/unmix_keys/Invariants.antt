@@ -1,12 +1,9 @@
 -- `unmix_keys`: at each turn the words from 4 up to i are unmixed.
 -- Assumes nothing.
 use Prim.Native.Nat.{◌-◌, ◌≤◌}
-use mathlib.Core.Path.{◌≡◌, subst}
-use borrow.Author.Rules.{rules}
-use native.Mathlib.Omega.{arith}
-use lib.ListN.{length, length-set}
+use mathlib.Core.Path.{◌≡◌}
+use lib.ListN.{length}
 use Rattle.aes_inverse.specs.RoundKeys.{UnmixedKeys}
-use Rattle.aes_inverse.proofs.RoundColumns.{none_unmixed, one_unmixed}
 use Rattle.aes_inverse.proofs.unmix.unmix_keys.Given as goal
 
 abbrev pub invariant-loop-i : goal.invariant-loop-i

@@ -1,7 +1,6 @@
 -- `unmixed_column`: the multiples of four bytes, rotated.
 -- Assumes nothing.
 use mathlib.Core.Path.{subst}
-use borrow.Author.Rules.{rules}
 use Rattle.octets.specs.Words.{b0, b1, b2, b3}
 use Rattle.aes_inverse.proofs.Unmixing.{Multiples, summed}
 use Rattle.aes_inverse.proofs.unmix.unmixed_column.Goals as goal

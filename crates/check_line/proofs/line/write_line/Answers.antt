@@ -11,7 +11,6 @@ use Rattle.answer.specs.declared.Answer.{Answer}
 use Rattle.answer.specs.declared.Answer.TheVariants.{Done, Refused}
 use Rattle.check_line.specs.Line.{opened_line, line_of}
 use Rattle.check_line.proofs.Pieces.{written_as}
-use borrow.Author.Rules.{rules}
 use Rattle.check_line.proofs.line.write_line.Goals as goal
 
 opened : (a : Answer) (n k : ℕ) → a ≡ Done n → k ≡ chunks n → opened_line n k ≡ line_of (meaning a)

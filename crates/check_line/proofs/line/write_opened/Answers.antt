@@ -1,7 +1,6 @@
 -- `write_opened`: its three pieces, one after the other.
 -- Assumes nothing.
 use mathlib.Core.List.{◌++◌}
-use borrow.Author.Rules.{rules}
 use native.Mathlib.Omega.{arith}
 use Rattle.check_line.specs.Line.{decimal, opened_text, in_text, chunks_text, opened_line}
 use Rattle.check_line.proofs.Pieces.{three, length_three}

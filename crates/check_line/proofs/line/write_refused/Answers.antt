@@ -1,7 +1,6 @@
 -- `write_refused`: its two pieces, one after the other.
 -- Assumes nothing.
 use mathlib.Core.List.{◌++◌}
-use borrow.Author.Rules.{rules}
 use native.Mathlib.Omega.{arith}
 use lib.ListN.{length-append}
 use Rattle.check_line.specs.Line.{decimal, refused_text, line_end, refused_line}

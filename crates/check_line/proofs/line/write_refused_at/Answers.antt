@@ -1,7 +1,6 @@
 -- `write_refused_at`: its three pieces, one after the other.
 -- Assumes nothing.
 use mathlib.Core.List.{◌++◌}
-use borrow.Author.Rules.{rules}
 use native.Mathlib.Omega.{arith}
 use Rattle.check_line.specs.Line.{decimal, refused_text, at_text, line_end, refused_at_line}
 use Rattle.check_line.proofs.Pieces.{three, length_three}

@@ -23,7 +23,6 @@ use Rattle.vault.specs.Vault.{sizes_of, codec_with}
 use Rattle.vault.specs.Under.{good_under, opened_under, sizes_in}
 use Rattle.vault.proofs.Combos.{small_overhead}
 use Rattle.content.proofs.Calls.{within-sizes}
-use borrow.Author.Rules.{rules}
 use Rattle.content.proofs.chunk.open_by.Goals as goal
 
 -- the combo's codec, with what it reads of a chunk by the combo, and its sizes as the numbers z

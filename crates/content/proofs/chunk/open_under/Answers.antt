@@ -37,6 +37,9 @@ returns c =
     let x = c.args in
     let e = aes 8 x.key.now in
     let n = opened-size x.combo e (length-aes 8 x.key.now) x.chunk.now in
-    let m : length (opened_under x.combo e x.chunk.now) ≤ length x.out.now = omega (arith, n, c.requires.out_len_bound.1) in record { value = sym (not-false _ c.if-not-good_chunk.false-raw) ∙ tested; out_after = c.open_part.ensures
+    let m : length (opened_under x.combo e x.chunk.now) ≤ length x.out.now = omega (arith, n, c.requires.out_len_bound.1) in record {
+      value = sym (not-false _ c.if-not-good_chunk.false-raw) ∙ tested;
+      out_after = c.open_part.ensures
           ∙ ap (λ (f : List ℕ → List ℕ). take (length x.out.now) (opened_under x.combo f x.chunk.now)) c.prepare.ensures.1
-          ∙ take_all (length x.out.now) (opened_under x.combo e x.chunk.now) m }
+          ∙ take_all (length x.out.now) (opened_under x.combo e x.chunk.now) m;
+    }

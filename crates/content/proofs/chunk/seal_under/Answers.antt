@@ -5,7 +5,6 @@ use mathlib.Core.Path.{◌∙◌, ap}
 use mathlib.Core.List.{List}
 use native.Mathlib.Omega.{arith}
 use Rattle.vault.specs.Under.{sealed_under}
-use borrow.Author.Rules.{rules}
 use Rattle.content.proofs.chunk.seal_under.Goals as goal
 
 pub seal_chunk-requires : goal.seal_chunk-requires

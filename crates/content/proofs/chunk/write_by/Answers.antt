@@ -22,7 +22,6 @@ use Rattle.vault.specs.Vault.{codec_with}
 use Rattle.vault.specs.Under.{sealed_under, sizes_in}
 use Rattle.vault.proofs.Combos.{small_overhead, codec_by, codec_by_lem}
 use Rattle.content.proofs.Calls.{within-sizes}
-use borrow.Author.Rules.{rules}
 use Rattle.content.proofs.chunk.write_by.Goals as goal
 
 -- the combo's codec, with its sizes as the numbers z

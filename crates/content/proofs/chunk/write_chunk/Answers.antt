@@ -1,6 +1,5 @@
 -- `write_chunk`: the call by the record's combo and MAC master key, under any encryption master key.
 -- Assumes nothing.
-use borrow.Author.Rules.{rules}
 use Rattle.content.proofs.chunk.write_chunk.Goals as goal
 
 pub returns : goal.returns

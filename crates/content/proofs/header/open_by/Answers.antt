@@ -1,6 +1,6 @@
 -- `open_by`: the tests in the rows' order; where the header is good the content key at the front of the buffer, and the reserved bytes in the answer.
 -- Assumes nothing.
-use Prim.Native.Nat.{ℕ, ◌-◌, ◌≤◌}
+use Prim.Native.Nat.{ℕ, ◌-◌}
 use mathlib.Core.Path.{◌≡◌, refl, sym, ◌∙◌, ap, ap₂}
 use mathlib.Core.Bool.{Bool, true, false, not, cond}
 use mathlib.Core.List.{List, ◌∷◌, ◌++◌}

@@ -1,6 +1,5 @@
 -- `open_header`: the call by the record's combo and keys, which have 32 bytes by their type.
 -- Assumes nothing.
-use borrow.Author.Rules.{rules}
 use Rattle.content.proofs.header.open_header.Goals as goal
 
 pub returns : goal.returns

@@ -20,7 +20,6 @@ use Rattle.frame.proofs.Rules.{head-sizes}
 use Rattle.frame.proofs.Single.{single_ends}
 use Rattle.vault.specs.Vault.{sizes_of, codec_with}
 use Rattle.vault.proofs.Combos.{codec_by, codec_by_lem}
-use borrow.Author.Rules.{rules}
 use Rattle.content.proofs.header.write_by.Goals as goal
 
 pub returns-then-not-head_right : goal.returns-then-not-head_right

@@ -7,7 +7,6 @@ use native.Mathlib.Omega.{arith}
 use Rattle.octets.specs.Rows.{done}
 use Rattle.frame.proofs.Exactly.{lengths_exactly}
 use Rattle.vault.specs.Vault.{sizes_of}
-use borrow.Author.Rules.{rules}
 use Rattle.content.proofs.lengths.file_length.Goals as goal
 
 pub returns-then-n-gt16777216 : goal.returns-then-n-gt16777216

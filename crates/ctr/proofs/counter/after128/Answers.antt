@@ -1,6 +1,6 @@
 -- `after128`: the block counts as one number.
 -- Assumes nothing.
-use Rattle.std.proofs.Common.{◌≡◌, ℕ, ◌+◌, ◌*◌, ◌/◌, ◌%◌, ◌^◌, ap, ◌∙◌, ap₂, arith, rules}
+use Rattle.std.proofs.Common.{◌≡◌, ℕ, ◌+◌, ◌*◌, ◌/◌, ◌%◌, ◌^◌, ap, ◌∙◌, ap₂, arith}
 use Rattle.octets.specs.BigEndian.{be}
 use Rattle.octets.proofs.BigEndian.{be_halves}
 use Rattle.ctr.proofs.WideCounters.{after_sum}

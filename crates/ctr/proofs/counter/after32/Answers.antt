@@ -1,6 +1,6 @@
 -- `after32`: the last word counts modulo 2^32.
 -- Assumes nothing.
-use Rattle.std.proofs.Common.{◌≡◌, ℕ, ◌+◌, ◌%◌, ◌^◌, [], ◌∷◌, ap, ◌∙◌, arith, rules}
+use Rattle.std.proofs.Common.{◌≡◌, ℕ, ◌+◌, ◌%◌, ◌^◌, [], ◌∷◌, ap, ◌∙◌, arith}
 use Rattle.octets.specs.Words.{word_bytes}
 use Rattle.ctr.proofs.Counters.{after-word}
 use Rattle.ctr.proofs.counter.after32.Goals as goal

@@ -1,6 +1,6 @@
 -- `counter_at`: one of the two.
 -- Assumes nothing.
-use Rattle.std.proofs.Common.{Bool, sym, ap, ◌∙◌, rules}
+use Rattle.std.proofs.Common.{Bool, sym, ap, ◌∙◌}
 use Rattle.aes.specs.Blocks.{state}
 use Rattle.ctr.specs.Ctr.{inc_of, after}
 use Rattle.ctr.proofs.counter.counter_at.Goals as goal

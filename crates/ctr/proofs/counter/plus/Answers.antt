@@ -1,6 +1,6 @@
 -- `plus`: the low half wraps, and the high half takes what it carries.
 -- Assumes nothing.
-use Rattle.std.proofs.Common.{ℕ, ◌+◌, ◌%◌, ◌^◌, ap, ◌∙◌, rules}
+use Rattle.std.proofs.Common.{ℕ, ◌+◌, ◌%◌, ◌^◌, ap, ◌∙◌}
 use Rattle.ctr.proofs.counter.plus.Goals as goal
 
 pub returns : goal.returns

@@ -1,7 +1,6 @@
 -- `crypt_by`: after each turn the first j bytes are those of the text that it becomes.
 -- Assumes nothing.
-use Rattle.std.proofs.Common.{◌≡◌, ◌-◌, ◌≤◌, length, refl, ap, ◌∙◌, arith, rules}
-use Rattle.octets.specs.Bytes.{filled}
+use Rattle.std.proofs.Common.{refl, ap, ◌∙◌, arith, rules}
 use Rattle.octets.proofs.Lists.{filled_all}
 use Rattle.aes_spec.specs.Cipher.{cipher}
 use Rattle.aes.specs.Blocks.{state}

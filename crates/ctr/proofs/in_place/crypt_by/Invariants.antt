@@ -1,13 +1,10 @@
 -- `crypt_by`: after each turn the first j bytes are those of the text that it becomes.
 -- Assumes nothing.
-use Rattle.std.proofs.Common.{◌≡◌, ◌-◌, ◌≤◌, length, refl, ap, ◌∙◌, arith, rules}
+use Rattle.std.proofs.Common.{◌≡◌, ◌-◌, ◌≤◌, length}
 use Rattle.octets.specs.Bytes.{filled}
-use Rattle.octets.proofs.Lists.{filled_all}
 use Rattle.aes_spec.specs.Cipher.{cipher}
 use Rattle.aes.specs.Blocks.{state}
-use Rattle.aes.proofs.Ciphers.{length-cipher}
 use Rattle.ctr.specs.Ctr as spec
-use Rattle.ctr.proofs.Texts.{length-ctr, text_more_in_place}
 use Rattle.ctr.proofs.in_place.crypt_by.Given as goal
 
 abbrev pub invariant-loop-j : goal.invariant-loop-j

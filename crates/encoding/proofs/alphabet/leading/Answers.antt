@@ -1,11 +1,8 @@
 -- `leading`: the characters passed are of the alphabet.
 -- Assumes nothing.
-use Prim.Native.Nat.{ℕ, ◌-◌, ◌≤◌, ◌<◌}
 use borrow.Author.Rules.{rules}
 use native.Mathlib.Omega.{arith}
 use borrow.Author.Count.{below_more}
-use lib.ListN.{length, get_or}
-use Rattle.encoding.specs.Base64url.{value}
 use Rattle.encoding.proofs.alphabet.leading.Goals as goal
 
 pub loop-i-init : goal.loop-i-init

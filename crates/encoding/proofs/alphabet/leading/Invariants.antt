@@ -1,9 +1,6 @@
 -- `leading`: the characters passed are of the alphabet.
 -- Assumes nothing.
 use Prim.Native.Nat.{ℕ, ◌-◌, ◌≤◌, ◌<◌}
-use borrow.Author.Rules.{rules}
-use native.Mathlib.Omega.{arith}
-use borrow.Author.Count.{below_more}
 use lib.ListN.{length, get_or}
 use Rattle.encoding.specs.Base64url.{value}
 use Rattle.encoding.proofs.alphabet.leading.Given as goal

@@ -1,6 +1,5 @@
 -- `letter_of`: the entry of the table.
 -- Assumes nothing.
-use borrow.Author.Rules.{rules}
 use Rattle.encoding.specs.Base64url.{letter}
 use Rattle.encoding.proofs.alphabet.letter_of.Goals as goal
 

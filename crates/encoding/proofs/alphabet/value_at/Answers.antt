@@ -2,7 +2,6 @@
 -- Assumes nothing.
 use Prim.Native.Nat.{ℕ, ◌<◌}
 use mathlib.Core.Path.{sym, subst}
-use borrow.Author.Rules.{rules}
 use Rattle.encoding.proofs.Characters.{known_at}
 use Rattle.encoding.proofs.alphabet.value_at.Goals as goal
 

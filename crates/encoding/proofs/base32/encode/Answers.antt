@@ -1,6 +1,6 @@
 -- `encode`: after i turns i groups are written.
 -- Assumes nothing.
-use Prim.Native.Nat.{◌+◌, ◌-◌, ◌*◌, ◌≤◌}
+use Prim.Native.Nat.{◌+◌, ◌*◌}
 use mathlib.Core.Path.{◌≡◌, refl, sym, ◌∙◌}
 use mathlib.Core.List.{[], ◌∷◌}
 use borrow.Author.Rules.{rules}
@@ -9,7 +9,7 @@ use native.Mathlib.Nat.{add-zero}
 use lib.ListN.{length, get_or, take, drop}
 use lib.Seq.{get_or-drop, take_all}
 use Rattle.encoding.specs.Base32.{quintets, encode}
-use Rattle.encoding.proofs.Groups.{written, part-tab, group_more}
+use Rattle.encoding.proofs.Groups.{part-tab, group_more}
 use Rattle.encoding.proofs.Quintets.{encode_groups, encode-append}
 use Rattle.encoding.proofs.base32.encode.Goals as goal
 

@@ -1,16 +1,10 @@
 -- `encode`: after i turns i groups are written.
 -- Assumes nothing.
-use Prim.Native.Nat.{◌+◌, ◌-◌, ◌*◌, ◌≤◌}
-use mathlib.Core.Path.{◌≡◌, refl, sym, ◌∙◌}
-use mathlib.Core.List.{[], ◌∷◌}
-use borrow.Author.Rules.{rules}
-use native.Mathlib.Omega.{arith}
-use native.Mathlib.Nat.{add-zero}
-use lib.ListN.{length, get_or, take, drop}
-use lib.Seq.{get_or-drop, take_all}
-use Rattle.encoding.specs.Base32.{quintets, encode}
-use Rattle.encoding.proofs.Groups.{written, part-tab, group_more}
-use Rattle.encoding.proofs.Quintets.{encode_groups, encode-append}
+use Prim.Native.Nat.{◌-◌, ◌≤◌}
+use mathlib.Core.Path.{◌≡◌}
+use lib.ListN.{length}
+use Rattle.encoding.specs.Base32.{encode}
+use Rattle.encoding.proofs.Groups.{written}
 use Rattle.encoding.proofs.base32.encode.Given as goal
 
 abbrev pub invariant-loop-i : goal.invariant-loop-i

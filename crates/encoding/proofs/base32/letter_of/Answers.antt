@@ -1,6 +1,5 @@
 -- `letter_of`: the entry of the table.
 -- Assumes nothing.
-use borrow.Author.Rules.{rules}
 use Rattle.encoding.specs.Base32.{letter}
 use Rattle.encoding.proofs.base32.letter_of.Goals as goal
 

@@ -6,7 +6,6 @@ use mathlib.Core.List.{List, map}
 use native.Mathlib.Omega.{arith}
 use lib.ListN.{length}
 use borrow.Author.Tests.{not-true, not-false}
-use borrow.Author.Rules.{rules}
 use Rattle.encoding.specs.Base64url.{canonical, value}
 use Rattle.encoding.proofs.Answers.{not_whole}
 use Rattle.encoding.proofs.Leading.{other_length, by_last, part_of}

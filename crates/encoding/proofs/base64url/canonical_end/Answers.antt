@@ -1,7 +1,6 @@
 -- `canonical_end`: by the number of characters.
 -- Assumes nothing.
 use mathlib.Core.Path.{◌≡◌}
-use borrow.Author.Rules.{rules}
 use native.Mathlib.Omega.{arith}
 use lib.ListN.{length}
 use Rattle.encoding.proofs.Answers.{no_end, end_of_one, end_of_two, end_of_three}

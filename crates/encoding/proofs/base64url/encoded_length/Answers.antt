@@ -1,6 +1,5 @@
 -- `encoded_length`: by the padding.
 -- Assumes nothing.
-use borrow.Author.Rules.{rules}
 use native.Mathlib.Omega.{arith}
 use Rattle.encoding.specs.Base64url.{encoded_length}
 use Rattle.encoding.proofs.base64url.encoded_length.Goals as goal

@@ -1,7 +1,6 @@
 -- `measure_from`: the bytes that what leads stands for, or where the walk from there stops.
 -- Assumes nothing.
 use mathlib.Core.Path.{sym, ap, ◌∙◌}
-use borrow.Author.Rules.{rules}
 use Rattle.encoding.specs.declared.base64url.Measure.TheVariants.{Accepted, Refused}
 use Rattle.encoding.proofs.Answers.{refused, measured}
 use Rattle.encoding.proofs.Leading.{leading_bytes, no_limit}

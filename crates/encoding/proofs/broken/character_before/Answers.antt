@@ -5,7 +5,6 @@ use mathlib.Core.List.{◌∷◌}
 use Prim.Native.Nat.{ℕ, suc, ◌-◌}
 use native.Mathlib.Omega.{arith}
 use lib.ListN.{get_or}
-use borrow.Author.Rules.{rules}
 use Rattle.encoding.proofs.broken.character_before.Goals as goal
 
 pub returns : goal.returns

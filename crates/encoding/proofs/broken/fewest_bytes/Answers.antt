@@ -3,7 +3,6 @@
 use mathlib.Core.Path.{◌≡◌, sym}
 use Prim.Native.Nat.{◌%◌}
 use native.Mathlib.Omega.{arith}
-use borrow.Author.Rules.{rules}
 use Rattle.encoding.proofs.Closing.{fewest_none, fewest_one, fewest_two, fewest_two_more, fewest_three, fewest_three_more}
 use Rattle.encoding.proofs.broken.fewest_bytes.Goals as goal
 

@@ -6,7 +6,6 @@ use native.Mathlib.Omega.{arith}
 use lib.Dec.{leb}
 use lib.ListN.{get_or}
 use borrow.Author.Tests.{not-true, not-false}
-use borrow.Author.Rules.{rules}
 use Rattle.encoding.specs.Broken.{fewest_bytes, pad_fits}
 use Rattle.encoding.specs.Leading.{before}
 use Rattle.encoding.proofs.Fitting.{after-padding, by_number, no_padding_here, not_padding, by_padding}

@@ -5,7 +5,6 @@ use Prim.Native.Nat.{ℕ, ◌+◌, ◌*◌, ◌/◌, ◌%◌}
 use lib.Dec.{leb}
 use mathlib.Core.Bool.{or-false}
 use borrow.Author.Tests.{ne_eqb, eq-eqb}
-use borrow.Author.Rules.{rules}
 use Rattle.encoding.specs.Base64url.{value, pad_character}
 use Rattle.encoding.specs.Broken.{pad_fits}
 use Rattle.encoding.proofs.broken.pad_fits.Goals as goal

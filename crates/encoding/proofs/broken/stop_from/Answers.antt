@@ -1,14 +1,10 @@
 -- `stop_from`: the walk from the start is the walk from the character reached.
 -- Assumes nothing.
-use mathlib.Core.Path.{◌≡◌, refl, sym, ◌∙◌}
-use Prim.Native.Nat.{◌-◌, ◌≤◌}
+use mathlib.Core.Path.{refl, sym, ◌∙◌}
 use native.Mathlib.Omega.{arith}
 use lib.Dec.{leb}
-use lib.ListN.{length, drop}
 use borrow.Author.Tests.{not-true, not-false}
 use borrow.Author.Rules.{rules}
-use Rattle.encoding.specs.Broken.{stop_from}
-use Rattle.encoding.specs.Leading.{before}
 use Rattle.encoding.proofs.Fitting.{stop-here, stop-next, stop-end}
 use Rattle.encoding.proofs.broken.stop_from.Goals as goal
 

@@ -1,11 +1,10 @@
 -- `mend_chunk`: the part of the file that is chunk i is lent to `reseal`.
 -- Assumes nothing.
-use Prim.Native.Nat.{ℕ, ◌+◌, ◌-◌, ◌*◌, ◌≤◌, ◌<◌, ◌^◌, min}
+use Prim.Native.Nat.{ℕ, ◌+◌, ◌-◌, ◌*◌, ◌≤◌, min}
 use mathlib.Core.Path.{◌≡◌, sym, ap, ap₂, ◌∙◌}
 use mathlib.Core.List.{List}
 use native.Mathlib.Omega.{arith}
 use lib.ListN.{length, take, drop, length-take, length-drop}
-use borrow.Author.Rules.{rules}
 use Rattle.octets.specs.Bytes.{placed}
 use Rattle.octets.proofs.Lists.{placed-part}
 use Rattle.aes_spec.specs.Cipher.{cipher}

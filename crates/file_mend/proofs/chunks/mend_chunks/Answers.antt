@@ -2,7 +2,6 @@
 -- Assumes nothing.
 use Prim.Native.Nat.{ℕ, ◌+◌, ◌-◌, ◌*◌, ◌/◌, ◌≤◌, ◌<◌, min}
 use mathlib.Core.Path.{◌≡◌, refl, sym, ap, ap₂, ◌∙◌}
-use mathlib.Core.Bool.{true}
 use mathlib.Core.Logic.{◌⊎◌}
 use mathlib.Core.List.{List}
 use native.Mathlib.Nat.{mul-zero}
@@ -12,14 +11,13 @@ use borrow.Author.Rules.{rules}
 use Rattle.octets.specs.Bytes.{placed}
 use Rattle.aes_spec.specs.Cipher.{cipher}
 use Rattle.aes.proofs.Ciphers.{length-cipher}
-use Rattle.frame.specs.Layout.{Sizes, covering, file_length, chunk_at}
+use Rattle.frame.specs.Layout.{Sizes, covering, chunk_at}
 use Rattle.frame.specs.Rules.{piece}
 use Rattle.frame.proofs.Pieces.{chunk_length}
 use Rattle.frame.proofs.Filling.{length_part}
 use Rattle.frame.proofs.Steps.{ends_within}
-use Rattle.vault.specs.declared.record.Combo.{Combo}
 use Rattle.vault.specs.Vault.{sizes_of}
-use Rattle.vault.specs.Under.{sealed_under, good_under, opened_under}
+use Rattle.vault.specs.Under.{sealed_under, good_under}
 use Rattle.vault.proofs.Combos.{opened-size}
 use Rattle.file_parts.specs.Under.{plain_under}
 use Rattle.mend_spec.specs.Mend.{chunk_start, resealed, mended_from}

@@ -1,30 +1,17 @@
 -- `mend_chunks`: what the whole range asks for is what remains from chunk i on, in the file as it is.
 -- Assumes nothing.
-use Prim.Native.Nat.{ℕ, ◌+◌, ◌-◌, ◌*◌, ◌/◌, ◌≤◌, ◌<◌, min}
-use mathlib.Core.Path.{◌≡◌, refl, sym, ap, ap₂, ◌∙◌}
+use Prim.Native.Nat.{ℕ, ◌-◌, ◌*◌, ◌≤◌, ◌<◌}
+use mathlib.Core.Path.{◌≡◌}
 use mathlib.Core.Bool.{true}
-use mathlib.Core.Logic.{◌⊎◌}
 use mathlib.Core.List.{List}
-use native.Mathlib.Nat.{mul-zero}
-use native.Mathlib.Omega.{arith}
-use lib.ListN.{length, take, drop}
-use borrow.Author.Rules.{rules}
-use Rattle.octets.specs.Bytes.{placed}
+use lib.ListN.{length, drop}
 use Rattle.aes_spec.specs.Cipher.{cipher}
-use Rattle.aes.proofs.Ciphers.{length-cipher}
-use Rattle.frame.specs.Layout.{Sizes, covering, file_length, chunk_at}
-use Rattle.frame.specs.Rules.{piece}
-use Rattle.frame.proofs.Pieces.{chunk_length}
-use Rattle.frame.proofs.Filling.{length_part}
-use Rattle.frame.proofs.Steps.{ends_within}
+use Rattle.frame.specs.Layout.{chunk_at}
 use Rattle.vault.specs.declared.record.Combo.{Combo}
 use Rattle.vault.specs.Vault.{sizes_of}
-use Rattle.vault.specs.Under.{sealed_under, good_under, opened_under}
-use Rattle.vault.proofs.Combos.{opened-size}
+use Rattle.vault.specs.Under.{sealed_under, good_under}
 use Rattle.file_parts.specs.Under.{plain_under}
-use Rattle.mend_spec.specs.Mend.{chunk_start, resealed, mended_from}
-use Rattle.mend_spec.proofs.Steps.{mended-end}
-use Rattle.mend_spec.proofs.Turns.{covering-place, places, part_in, turn}
+use Rattle.mend_spec.specs.Mend.{resealed, mended_from}
 use Rattle.file_mend.proofs.chunks.mend_chunks.Given as goal
 
 -- a chunk sealed again, under the expanded content key w

@@ -1,15 +1,15 @@
 -- `mend_inside`: the header is opened, its nonce copied, and then the file is mended under what it says.
 -- Assumes nothing.
-use Prim.Native.Nat.{ℕ, ◌+◌, ◌-◌, ◌≤◌}
+use Prim.Native.Nat.{ℕ, ◌≤◌}
 use mathlib.Core.Path.{◌≡◌, sym, ap, ap₂, ◌∙◌}
 use mathlib.Core.Bool.{Bool, true, cond}
 use mathlib.Core.List.{List}
 use native.Mathlib.Omega.{arith}
-use lib.ListN.{length, take, drop, replicate}
+use lib.ListN.{length, take, replicate}
 use lib.Seq.{length-take-le, take_at}
 use borrow.Author.Rules.{rules}
 use borrow.Author.Tests.{not-true, not-false}
-use Rattle.frame.specs.Layout.{Sizes, file_length, right_length, header_at}
+use Rattle.frame.specs.Layout.{Sizes, file_length, header_at}
 use Rattle.frame.specs.Frame.{payload_of}
 use Rattle.frame.proofs.Lengths.{file-clear}
 use Rattle.vault.specs.Vault.{sizes_of, codec_with}
@@ -100,13 +100,16 @@ mend_under-requires c =
       ap (take n) c.copy_at.ensures ∙ take_at (take n x.file.now) _ n (length-take-le n x.file.now (nonce-in).0) ∙ ap (λ (m : ℕ). take m x.file.now) (nonce-size),
     ) in
     let x = c.args in
-    let z = sizes_of x.combo in record { t_value = c.table-t.ensures; key_len = (
+    let z = sizes_of x.combo in record {
+      t_value = c.table-t.ensures;
+      key_len = (
         search rules,
         ap length (copied).1 ∙ length-take-le z.nonce x.file.now (omega (arith, (nonce-in).0, nonce-size)),
         file-clear z (length x.file.now) c.requires.enc_len.2 ∙ ap (file_length z) (sym c.requires.enc_len.3),
         c.requires.enc_len.4,
         c.requires.enc_len.5,
-      ) }
+      );
+    }
 
 pub returns : goal.returns
 returns c =

@@ -6,7 +6,6 @@ use mathlib.Core.Bool.{true}
 use mathlib.Core.List.{List, [], ◌∷◌}
 use native.Mathlib.Omega.{arith}
 use lib.ListN.{length}
-use borrow.Author.Rules.{rules}
 use Rattle.octets.specs.Rows.{done, refused_at, ended}
 use Rattle.aes_spec.specs.Cipher.{cipher}
 use Rattle.frame.specs.Layout.{chunk_size, covering, chunk_at, lowest_bad}

@@ -1,16 +1,11 @@
 -- `any_in_use`: whether one of all nonces is in use is whether one of those from i on is.
 -- Assumes nothing.
-use Prim.Native.Nat.{ℕ, ◌+◌, ◌-◌, ◌*◌, ◌≤◌, ◌<◌}
-use mathlib.Core.Path.{◌≡◌, sym, ap, ap₂, ◌∙◌}
-use mathlib.Core.List.{List}
-use native.Mathlib.Omega.{arith}
-use lib.ListN.{length, take, drop}
-use borrow.Author.Rules.{rules}
-use Rattle.frame.specs.Layout.{Sizes, chunks}
-use Rattle.frame.proofs.Steps.{all, front, ends_within}
+use Prim.Native.Nat.{◌-◌, ◌*◌, ◌≤◌}
+use mathlib.Core.Path.{◌≡◌}
+use lib.ListN.{drop}
+use Rattle.frame.specs.Layout.{chunks}
 use Rattle.vault.specs.Vault.{sizes_of}
-use Rattle.mend_spec.specs.Mend.{in_use, any_in_use}
-use Rattle.mend_spec.proofs.Steps.{any_next, any_none}
+use Rattle.mend_spec.specs.Mend.{any_in_use}
 use Rattle.file_mend.proofs.nonces.any_in_use.Given as goal
 
 abbrev pub invariant-loop-i : goal.invariant-loop-i

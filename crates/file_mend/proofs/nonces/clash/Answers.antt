@@ -1,9 +1,8 @@
 -- `clash`: two lent nonces, and then those in the file.
 -- Assumes nothing.
-use Prim.Native.Nat.{ℕ, ◌*◌}
+use Prim.Native.Nat.{◌*◌}
 use mathlib.Core.Path.{◌≡◌, sym, ap, ◌∙◌}
 use native.Mathlib.Omega.{arith}
-use borrow.Author.Rules.{rules}
 use Rattle.frame.specs.Layout.{Sizes, repeats}
 use Rattle.vault.specs.Vault.{sizes_of}
 use Rattle.file_mend.proofs.nonces.clash.Goals as goal

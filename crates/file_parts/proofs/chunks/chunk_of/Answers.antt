@@ -5,7 +5,6 @@ use lib.ListN.{length}
 use Rattle.frame.proofs.Pieces.{chunk_length}
 use Rattle.frame.proofs.Filling.{chunk_part}
 use Rattle.vault.specs.Vault.{sizes_of}
-use borrow.Author.Rules.{rules}
 use Rattle.file_parts.proofs.chunks.chunk_of.Goals as goal
 
 pub returns : goal.returns

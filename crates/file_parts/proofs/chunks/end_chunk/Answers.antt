@@ -1,6 +1,5 @@
 -- `end_chunk`: the number after the last covering chunk is at most that of the chunks up to the range's end, so that it fits.
 -- Assumes nothing.
-use borrow.Author.Rules.{rules}
 use Prim.Native.Nat.{◌+◌, ◌/◌}
 use mathlib.Core.Path.{refl}
 use native.Mathlib.Omega.{arith}

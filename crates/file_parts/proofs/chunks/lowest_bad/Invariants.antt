@@ -1,17 +1,11 @@
 -- `lowest_bad`: upward from the first chunk; what is sought among all is what is sought from here on.
 -- Assumes nothing.
-use borrow.Author.Rules.{rules}
 use Prim.Native.Nat.{◌-◌, ◌≤◌}
-use mathlib.Core.Bool.{true, false}
-use mathlib.Core.Path.{◌≡◌, refl, sym, ap, ◌∙◌}
-use borrow.Author.Tests.{not-true, not-false}
-use native.Mathlib.Omega.{arith}
+use mathlib.Core.Path.{◌≡◌}
 use Rattle.aes_spec.specs.Cipher.{cipher}
-use Rattle.frame.specs.Layout.{chunk_at, lowest_bad}
-use Rattle.frame.proofs.Filling.{bad_next, bad_here, bad_none}
+use Rattle.frame.specs.Layout.{lowest_bad}
 use Rattle.vault.specs.Vault.{sizes_of}
 use Rattle.vault.specs.Under.{good_under}
-use Rattle.vault.proofs.Combos.{small_overhead}
 use Rattle.file_parts.proofs.chunks.lowest_bad.Given as goal
 
 abbrev pub invariant-loop-i : goal.invariant-loop-i

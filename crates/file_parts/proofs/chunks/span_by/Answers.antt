@@ -5,7 +5,6 @@ use mathlib.Core.Path.{refl}
 use native.Mathlib.Omega.{arith}
 use Rattle.vault.specs.Under.{sizes_in}
 use Rattle.file_parts.proofs.Starts.{start-within}
-use borrow.Author.Rules.{rules}
 use Rattle.file_parts.proofs.chunks.span_by.Goals as goal
 
 pub overflow_mul-a : goal.overflow_mul-a

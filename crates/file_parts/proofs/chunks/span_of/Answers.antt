@@ -4,7 +4,6 @@ use Prim.Native.Nat.{◌+◌, ◌*◌, ◌<◌, ◌≤◌, min}
 use mathlib.Core.Path.{◌≡◌, sym, ◌∙◌, ap, subst}
 use Rattle.frame.specs.Layout.{Sizes, stored, file_length}
 use Rattle.vault.proofs.Combos.{small_overhead}
-use borrow.Author.Rules.{rules}
 use Rattle.file_parts.proofs.chunks.span_of.Goals as goal
 
 pub span_by-requires : goal.span_by-requires

@@ -6,7 +6,6 @@ use mathlib.Core.Bool.{true, cond}
 use native.Mathlib.Omega.{arith}
 use lib.ListN.{length, take}
 use lib.Seq.{length-take-le}
-use borrow.Author.Rules.{rules}
 use Rattle.frame.specs.Layout.{Sizes, right_length, header_at}
 use Rattle.frame.specs.Frame.{payload_of}
 use Rattle.frame.proofs.Lengths.{file-clear}

@@ -1,12 +1,10 @@
 -- `among`: whether x is among all is whether it is among those from i on.
 -- Assumes nothing.
-use Prim.Native.Nat.{◌-◌, ◌*◌, ◌≤◌}
+use Prim.Native.Nat.{◌*◌}
 use mathlib.Core.Path.{◌≡◌, sym, ap, ◌∙◌}
 use native.Mathlib.Omega.{arith}
 use lib.ListN.{length, take, drop}
-use borrow.Author.Rules.{rules}
 use Rattle.octets.specs.Bytes.{same}
-use Rattle.frame.specs.Layout.{among}
 use Rattle.frame.proofs.Steps.{ends_within, among_all, among_next, among_none}
 use Rattle.file_parts.proofs.nonces.among.Goals as goal
 

@@ -5,8 +5,7 @@ use mathlib.Core.Path.{◌≡◌, refl, sym, ap, ◌∙◌}
 use native.Mathlib.Omega.{arith}
 use lib.ListN.{length, take, drop, length-drop}
 use Rattle.octets.proofs.Lists.{part-rest}
-use borrow.Author.Rules.{rules}
-use Rattle.frame.specs.Layout.{among, repeats}
+use Rattle.frame.specs.Layout.{among}
 use Rattle.frame.proofs.Steps.{ends_within, rest-within, repeats_all, repeats-next, repeats_none}
 use Rattle.file_parts.proofs.nonces.repeats.Goals as goal
 

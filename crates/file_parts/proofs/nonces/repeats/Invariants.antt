@@ -1,13 +1,9 @@
 -- `repeats`: whether two of all are equal is whether two of those from i on are.
 -- Assumes nothing.
-use Prim.Native.Nat.{◌+◌, ◌-◌, ◌*◌, ◌≤◌}
-use mathlib.Core.Path.{◌≡◌, refl, sym, ap, ◌∙◌}
-use native.Mathlib.Omega.{arith}
-use lib.ListN.{length, take, drop, length-drop}
-use Rattle.octets.proofs.Lists.{part-rest}
-use borrow.Author.Rules.{rules}
-use Rattle.frame.specs.Layout.{among, repeats}
-use Rattle.frame.proofs.Steps.{ends_within, rest-within, repeats_all, repeats-next, repeats_none}
+use Prim.Native.Nat.{◌-◌, ◌*◌, ◌≤◌}
+use mathlib.Core.Path.{◌≡◌}
+use lib.ListN.{drop}
+use Rattle.frame.specs.Layout.{repeats}
 use Rattle.file_parts.proofs.nonces.repeats.Given as goal
 
 abbrev pub invariant-loop-i : goal.invariant-loop-i

@@ -3,7 +3,6 @@
 use Prim.Native.Nat.{ℕ}
 use mathlib.Core.Path.{sym, ap}
 use mathlib.Core.List.{List}
-use borrow.Author.Rules.{rules}
 use Rattle.vault.specs.declared.record.Combo.{Combo}
 use Rattle.file_reader.specs.Kept.{keys_with, mac_for}
 use Rattle.file_reader.proofs.keys.keys_of.Goals as goal

@@ -2,14 +2,13 @@
 -- Assumes nothing.
 use Prim.Native.Nat.{ℕ, ◌+◌, ◌-◌, ◌*◌, ◌≤◌, min}
 use mathlib.Core.Path.{◌≡◌, refl, sym, ap, ap₂, ◌∙◌}
-use mathlib.Core.List.{◌++◌, append-nil}
+use mathlib.Core.List.{append-nil}
 use native.Mathlib.Omega.{arith}
 use native.Mathlib.Nat.{mul-zero, add-mul}
 use lib.ListN.{length, take, drop}
 use lib.Seq.{take_all}
-use borrow.Author.Rules.{rules}
 use Rattle.aes_spec.specs.Cipher.{cipher}
-use Rattle.frame.specs.Layout.{Sizes, chunks, chunks_from}
+use Rattle.frame.specs.Layout.{Sizes, chunks_from}
 use Rattle.vault.specs.Under.{sealed_under, sizes_in}
 use Rattle.frame.proofs.Steps.{piece, ends_within}
 use Rattle.file_write.proofs.Steps.{chunks_all, chunks_none, chunk_within, turn}

@@ -1,22 +1,16 @@
 -- `write_chunks`: what is written, and the chunks from i on behind it, are the whole.
 -- Assumes nothing.
-use Prim.Native.Nat.{ℕ, ◌+◌, ◌-◌, ◌*◌, ◌≤◌, min}
-use mathlib.Core.Path.{◌≡◌, refl, sym, ap, ap₂, ◌∙◌}
-use mathlib.Core.List.{◌++◌, append-nil}
-use native.Mathlib.Omega.{arith}
-use native.Mathlib.Nat.{mul-zero, add-mul}
+use Prim.Native.Nat.{◌+◌, ◌-◌, ◌*◌, ◌≤◌, min}
+use mathlib.Core.Path.{◌≡◌}
+use mathlib.Core.List.{◌++◌}
 use lib.ListN.{length, take, drop}
-use lib.Seq.{take_all}
-use borrow.Author.Rules.{rules}
 use Rattle.aes_spec.specs.Cipher.{cipher}
-use Rattle.frame.specs.Layout.{Sizes, chunks, chunks_from}
+use Rattle.frame.specs.Layout.{chunks_from}
 use Rattle.vault.specs.Under.{sealed_under, sizes_in}
-use Rattle.frame.proofs.Steps.{piece, ends_within}
-use Rattle.file_write.proofs.Steps.{chunks_all, chunks_none, chunk_within, turn}
 use Rattle.file_write.proofs.chunks.write_chunks.Given as goal
 
 abbrev pub invariant-loop-i : goal.invariant-loop-i
-invariant-loop-i l =    (l.i ≤ l.k)
+invariant-loop-i l = (l.i ≤ l.k)
     × (length l.out ≡ length l.initial.out)
     × (chunks_from (sizes_in l.z) (sealed_under l.combo (cipher 14 l.w) l.mac l.header_nonce) 0 l.k l.nonces l.cleartext
     ≡ take (min (32768 * l.i) (length l.cleartext) + l.z.overhead * l.i) l.out

@@ -1,6 +1,5 @@
 -- `counter`: the nonce's three words and the number.
 -- Assumes nothing.
-use borrow.Author.Rules.{rules}
 use native.Mathlib.Omega.{arith}
 use Rattle.gcm.proofs.Counters.{counter_is}
 use Rattle.gcm.proofs.aead.counter.Goals as goal

@@ -1,7 +1,6 @@
 -- `tag`: the hash, with the first block of the key stream added.
 -- Assumes nothing.
 use mathlib.Core.Path.{◌∙◌, ap, ap₂}
-use borrow.Author.Rules.{rules}
 use Rattle.octets.specs.BigEndian.{be}
 use Rattle.octets.specs.Xors.{xors}
 use Rattle.aes_spec.specs.Cipher.{cipher}

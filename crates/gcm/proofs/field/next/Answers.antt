@@ -1,6 +1,5 @@
 -- `next`: one place to the right, across the halves.
 -- Assumes nothing.
-use borrow.Author.Rules.{rules}
 use native.Mathlib.Omega.{arith}
 use Rattle.gcm.proofs.Halves.{next_halves, low_fits}
 use Rattle.gcm.proofs.field.next.Goals as goal

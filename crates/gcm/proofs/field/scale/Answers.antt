@@ -1,7 +1,6 @@
 -- `scale`: 0 times the element, or once.
 -- Assumes nothing.
 use Prim.Native.Nat.{ℕ, zero, suc, ◌*◌, ◌^◌, ◌<◌}
-use borrow.Author.Rules.{rules}
 use native.Mathlib.Omega.{arith}
 use Rattle.gcm.proofs.field.scale.Goals as goal
 

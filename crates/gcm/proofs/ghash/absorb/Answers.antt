@@ -1,15 +1,14 @@
 -- `absorb`: at each turn the hash is what the definition makes of the blocks that are left.
 -- Assumes nothing.
-use Prim.Native.Nat.{ℕ, ◌-◌, ◌<◌, ◌≤◌}
+use Prim.Native.Nat.{◌-◌, ◌<◌}
 use mathlib.Core.Path.{◌≡◌, sym, ◌∙◌, ap}
 use borrow.Author.Rules.{rules}
 use native.Mathlib.Omega.{arith}
 use lib.ListN.{length}
 use Rattle.ctr.specs.Ctr.{blocks}
 use Rattle.gcm.specs.Elements.{value}
-use Rattle.gcm.specs.Table.{Entries}
 use Rattle.gcm.specs.Gcm as spec
-use Rattle.gcm.proofs.Hashing.{rest, hash_more, hash_none}
+use Rattle.gcm.proofs.Hashing.{hash_more, hash_none}
 use Rattle.gcm.proofs.ghash.absorb.Goals as goal
 
 pub loop-i-init : goal.loop-i-init

@@ -1,15 +1,13 @@
 -- `absorb`: at each turn the hash is what the definition makes of the blocks that are left.
 -- Assumes nothing.
-use Prim.Native.Nat.{ℕ, ◌-◌, ◌<◌, ◌≤◌}
-use mathlib.Core.Path.{◌≡◌, sym, ◌∙◌, ap}
-use borrow.Author.Rules.{rules}
-use native.Mathlib.Omega.{arith}
+use Prim.Native.Nat.{ℕ, ◌-◌, ◌≤◌}
+use mathlib.Core.Path.{◌≡◌}
 use lib.ListN.{length}
 use Rattle.ctr.specs.Ctr.{blocks}
 use Rattle.gcm.specs.Elements.{value}
 use Rattle.gcm.specs.Table.{Entries}
 use Rattle.gcm.specs.Gcm as spec
-use Rattle.gcm.proofs.Hashing.{rest, hash_more, hash_none}
+use Rattle.gcm.proofs.Hashing.{rest}
 use Rattle.gcm.proofs.ghash.absorb.Given as goal
 
 abbrev pub invariant-loop-i : goal.invariant-loop-i

@@ -1,6 +1,5 @@
 -- `of_block`: four words as one number.
 -- Assumes nothing.
-use borrow.Author.Rules.{rules}
 use Rattle.octets.proofs.BigEndian.{int-state}
 use Rattle.gcm.proofs.ghash.of_block.Goals as goal
 

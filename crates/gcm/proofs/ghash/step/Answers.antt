@@ -2,7 +2,6 @@
 -- Assumes nothing.
 use Prim.Native.Nat.{ℕ}
 use mathlib.Core.Path.{◌∙◌, ap}
-use borrow.Author.Rules.{rules}
 use lib.Bits.{bit_xor}
 use Rattle.gcm.specs.Elements.{value}
 use Rattle.gcm.specs.Field as spec

@@ -1,6 +1,5 @@
 -- `to_block`: a number as four words.
 -- Assumes nothing.
-use borrow.Author.Rules.{rules}
 use native.Mathlib.Omega.{arith}
 use Rattle.octets.proofs.BigEndian.{be_halves}
 use Rattle.gcm.proofs.ghash.to_block.Goals as goal

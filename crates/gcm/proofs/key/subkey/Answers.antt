@@ -1,7 +1,6 @@
 -- `subkey`: the block of zeros, enciphered.
 -- Assumes nothing.
 use mathlib.Core.Path.{◌∙◌, ap}
-use borrow.Author.Rules.{rules}
 use Rattle.octets.specs.BigEndian.{int}
 use Rattle.octets.specs.Words.{word_bytes}
 use Rattle.gcm.specs.Gcm as spec

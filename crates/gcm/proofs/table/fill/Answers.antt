@@ -1,10 +1,9 @@
 -- `fill`: at each turn the entries below i are right.
 -- Assumes nothing.
-use Prim.Native.Nat.{◌-◌, ◌≤◌}
 use mathlib.Core.Path.{◌≡◌, subst}
 use borrow.Author.Rules.{rules}
 use native.Mathlib.Omega.{arith}
-use lib.ListN.{length, length-set}
+use lib.ListN.{length-set}
 use Rattle.gcm.specs.Elements.{value}
 use Rattle.gcm.specs.Table.{Entries}
 use Rattle.gcm.proofs.Products.{entries_none, entries_more}

@@ -1,13 +1,10 @@
 -- `fill`: at each turn the entries below i are right.
 -- Assumes nothing.
 use Prim.Native.Nat.{◌-◌, ◌≤◌}
-use mathlib.Core.Path.{◌≡◌, subst}
-use borrow.Author.Rules.{rules}
-use native.Mathlib.Omega.{arith}
-use lib.ListN.{length, length-set}
+use mathlib.Core.Path.{◌≡◌}
+use lib.ListN.{length}
 use Rattle.gcm.specs.Elements.{value}
 use Rattle.gcm.specs.Table.{Entries}
-use Rattle.gcm.proofs.Products.{entries_none, entries_more}
 use Rattle.gcm.proofs.table.fill.Given as goal
 
 abbrev pub invariant-loop-i : goal.invariant-loop-i

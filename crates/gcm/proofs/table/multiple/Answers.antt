@@ -1,12 +1,11 @@
 -- `multiple`: at each turn the product is what the definition makes of the bits that are left.
 -- Assumes nothing.
-use Prim.Native.Nat.{ℕ, ◌+◌, ◌-◌, ◌/◌, ◌%◌, ◌^◌, ◌≤◌}
+use Prim.Native.Nat.{ℕ, ◌+◌, ◌-◌, ◌/◌, ◌%◌, ◌^◌}
 use mathlib.Core.Path.{◌≡◌, refl, sym, ◌∙◌, ap}
 use borrow.Author.Rules.{rules}
 use native.Mathlib.Omega.{arith}
 use Rattle.gcm.specs.Elements.{value}
 use Rattle.gcm.specs.Field as spec
-use Rattle.gcm.specs.Digits.{part}
 use Rattle.gcm.proofs.Halves.{mul_more}
 use Rattle.gcm.proofs.Digits.{four_bits_lem}
 use Rattle.gcm.proofs.table.multiple.Goals as goal

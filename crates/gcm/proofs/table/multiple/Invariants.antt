@@ -1,14 +1,10 @@
 -- `multiple`: at each turn the product is what the definition makes of the bits that are left.
 -- Assumes nothing.
-use Prim.Native.Nat.{ℕ, ◌+◌, ◌-◌, ◌/◌, ◌%◌, ◌^◌, ◌≤◌}
-use mathlib.Core.Path.{◌≡◌, refl, sym, ◌∙◌, ap}
-use borrow.Author.Rules.{rules}
-use native.Mathlib.Omega.{arith}
+use Prim.Native.Nat.{◌-◌, ◌≤◌}
+use mathlib.Core.Path.{◌≡◌}
 use Rattle.gcm.specs.Elements.{value}
 use Rattle.gcm.specs.Field as spec
 use Rattle.gcm.specs.Digits.{part}
-use Rattle.gcm.proofs.Halves.{mul_more}
-use Rattle.gcm.proofs.Digits.{four_bits_lem}
 use Rattle.gcm.proofs.table.multiple.Given as goal
 
 abbrev pub invariant-loop-n : goal.invariant-loop-n

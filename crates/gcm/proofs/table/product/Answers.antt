@@ -1,13 +1,12 @@
 -- `product`: at each turn the two sums together stand for the product of the bytes that were taken.
 -- Assumes nothing.
-use Prim.Native.Nat.{ℕ, ◌+◌, ◌-◌, ◌*◌, ◌/◌, ◌%◌, ◌^◌, ◌≤◌}
+use Prim.Native.Nat.{ℕ, ◌+◌, ◌/◌, ◌%◌, ◌^◌}
 use mathlib.Core.Path.{◌≡◌, sym, ◌∙◌, ap, ap₂, subst}
 use borrow.Author.Rules.{rules}
 use native.Mathlib.Omega.{arith}
 use lib.Bits.{bit_xor}
 use Rattle.gcm.specs.Elements.{wide}
 use Rattle.gcm.specs.Digits.{nexts}
-use Rattle.gcm.specs.Table.{Entries}
 use Rattle.gcm.proofs.Digits.{shift_more}
 use Rattle.gcm.proofs.Products.{Sums, sums_none, sums_more, two_sums, sums_all}
 use Rattle.gcm.proofs.table.product.Goals as goal

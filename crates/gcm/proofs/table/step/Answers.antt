@@ -2,7 +2,6 @@
 -- Assumes nothing.
 use Prim.Native.Nat.{ℕ, ◌*◌, ◌^◌}
 use mathlib.Core.Path.{◌∙◌, ap₂}
-use borrow.Author.Rules.{rules}
 use lib.Bits.{bit_xor}
 use Rattle.gcm.proofs.Products.{pair}
 use Rattle.gcm.proofs.table.step.Goals as goal

@@ -1,7 +1,6 @@
 -- `times`: the product, reduced.
 -- Assumes nothing.
 use mathlib.Core.Path.{◌∙◌}
-use borrow.Author.Rules.{rules}
 use Rattle.gcm.proofs.table.times.Goals as goal
 
 pub returns : goal.returns

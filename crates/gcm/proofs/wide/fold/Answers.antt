@@ -1,6 +1,5 @@
 -- `fold`: the bits shifted by 0, 1, 2 and 7 places, across the halves.
 -- Assumes nothing.
-use borrow.Author.Rules.{rules}
 use native.Mathlib.Omega.{arith}
 use Rattle.gcm.proofs.Steps.{folded}
 use Rattle.gcm.proofs.wide.fold.Goals as goal

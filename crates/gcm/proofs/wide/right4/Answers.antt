@@ -1,7 +1,6 @@
 -- `right4`: each word, and what falls out of the word before it.
 -- Assumes nothing.
 use mathlib.Core.Path.{refl}
-use borrow.Author.Rules.{rules}
 use native.Mathlib.Omega.{arith}
 use Rattle.gcm.proofs.WideNumbers.{sum_fits, four_right}
 use Rattle.gcm.proofs.wide.right4.Goals as goal

@@ -1,9 +1,8 @@
 -- `load`: after t turns the first t words are the block's.
 -- Assumes nothing.
-use Prim.Native.Nat.{◌-◌, ◌≤◌}
 use mathlib.Core.Path.{◌≡◌, refl}
 use native.Mathlib.Omega.{arith}
-use lib.ListN.{length, take, drop, length-set}
+use lib.ListN.{length-set}
 use Rattle.octets.specs.Words.{words}
 use Rattle.hashing.proofs.Schedules.{words_more}
 use borrow.Author.Rules.{rules}

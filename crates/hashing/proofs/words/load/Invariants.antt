@@ -1,12 +1,9 @@
 -- `load`: after t turns the first t words are the block's.
 -- Assumes nothing.
 use Prim.Native.Nat.{◌-◌, ◌≤◌}
-use mathlib.Core.Path.{◌≡◌, refl}
-use native.Mathlib.Omega.{arith}
-use lib.ListN.{length, take, drop, length-set}
+use mathlib.Core.Path.{◌≡◌}
+use lib.ListN.{length, take, drop}
 use Rattle.octets.specs.Words.{words}
-use Rattle.hashing.proofs.Schedules.{words_more}
-use borrow.Author.Rules.{rules}
 use Rattle.hashing.proofs.words.load.Given as goal
 
 abbrev pub invariant-loop-t : goal.invariant-loop-t

@@ -1,16 +1,10 @@
 -- `write_words`: after i turns the bytes of the first i words stand in their places.
 -- Assumes nothing.
-use Prim.Native.Nat.{ℕ, ◌+◌, ◌-◌, ◌*◌, ◌≤◌, ◌<◌}
-use mathlib.Core.Path.{◌≡◌, refl, sym, ◌∙◌, ap}
-use mathlib.Core.List.{List, [], ◌∷◌, ◌++◌}
-use native.Mathlib.Omega.{arith}
-use lib.ListN.{length, take, drop, get_or}
-use lib.Seq.{paste, paste-zero, take-length}
-use Rattle.octets.specs.Bytes.{placed}
+use Prim.Native.Nat.{◌-◌, ◌*◌, ◌≤◌}
+use mathlib.Core.Path.{◌≡◌}
+use lib.ListN.{length}
+use lib.Seq.{paste}
 use Rattle.octets.specs.Words.{word_bytes}
-use Rattle.octets.proofs.Lists.{placed-next}
-use Rattle.octets.proofs.Words.{length-word_bytes, word_bytes-at}
-use borrow.Author.Rules.{rules}
 use Rattle.hashing.proofs.words.write_words.Given as goal
 
 abbrev pub invariant-loop-i : goal.invariant-loop-i

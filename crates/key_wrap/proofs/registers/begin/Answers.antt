@@ -1,6 +1,5 @@
 -- `begin`: two blocks of the key behind the initial value.
 -- Assumes nothing.
-use borrow.Author.Rules.{rules}
 use Rattle.key_wrap.proofs.Parts.{begun}
 use Rattle.key_wrap.proofs.registers.begin.Goals as goal
 

@@ -1,6 +1,5 @@
 -- `checks`: two blocks with the same end.
 -- Assumes nothing.
-use borrow.Author.Rules.{rules}
 use mathlib.Core.Path.{◌∙◌}
 use Rattle.key_wrap.proofs.Parts.{checked}
 use Rattle.key_wrap.proofs.registers.checks.Goals as goal

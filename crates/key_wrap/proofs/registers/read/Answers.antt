@@ -1,6 +1,5 @@
 -- `read`: three blocks, of which the last two overlap.
 -- Assumes nothing.
-use borrow.Author.Rules.{rules}
 use Rattle.key_wrap.proofs.Parts.{read_in}
 use Rattle.key_wrap.proofs.registers.read.Goals as goal
 

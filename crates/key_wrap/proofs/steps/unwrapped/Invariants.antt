@@ -1,13 +1,9 @@
 -- `unwrapped`: the steps that are left, from here, are all steps from the start.
 -- Assumes nothing.
-use borrow.Author.Rules.{rules}
-use Prim.Native.Nat.{ℕ, suc, ◌-◌, ◌<◌, ◌≤◌}
-use mathlib.Core.List.{List}
-use mathlib.Core.Path.{◌≡◌, refl, sym, ◌∙◌, ap, ap₂}
-use native.Mathlib.Omega.{arith}
-use lib.ListN.{length, drop, length-drop}
+use Prim.Native.Nat.{◌≤◌}
+use mathlib.Core.Path.{◌≡◌}
 use Rattle.aes_inverse.specs.InverseCipher.{inv_cipher}
-use Rattle.key_wrap.specs.KeyWrap.{steps, unwrap_step, unwrap_steps, unwrapped}
+use Rattle.key_wrap.specs.KeyWrap.{unwrap_steps}
 use Rattle.key_wrap.specs.RegisterBytes.{bytes}
 use Rattle.key_wrap.proofs.steps.unwrapped.Given as goal
 

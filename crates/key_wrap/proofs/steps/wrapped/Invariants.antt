@@ -1,14 +1,9 @@
 -- `wrapped`: after n turns the registers are those of n steps.
 -- Assumes nothing.
-use borrow.Author.Rules.{rules}
-use Prim.Native.Nat.{ℕ, ◌+◌, ◌-◌, ◌≤◌}
-use mathlib.Core.List.{List, ◌++◌}
-use mathlib.Core.Path.{◌≡◌, refl, ◌∙◌, ap₂}
-use native.Mathlib.Numerals.{add-one}
-use native.Mathlib.Omega.{arith}
-use lib.ListN.{length}
+use Prim.Native.Nat.{◌-◌, ◌≤◌}
+use mathlib.Core.Path.{◌≡◌}
 use Rattle.aes_spec.specs.Cipher.{cipher}
-use Rattle.key_wrap.specs.KeyWrap.{initial_value, steps, wrap_step, wrap_steps, wrap}
+use Rattle.key_wrap.specs.KeyWrap.{wrap_steps}
 use Rattle.key_wrap.specs.RegisterBytes.{bytes}
 use Rattle.key_wrap.proofs.steps.wrapped.Given as goal
 

@@ -1,6 +1,5 @@
 -- `store_key`: two blocks.
 -- Assumes nothing.
-use borrow.Author.Rules.{rules}
 use mathlib.Core.List.{[], ◌∷◌}
 use mathlib.Core.Path.{◌∙◌, ap}
 use Rattle.octets.specs.Bytes.{placed}

@@ -3,7 +3,6 @@
 use mathlib.Core.Path.{sym, ◌∙◌}
 use borrow.Author.Tests.{le-leb, lt-leb}
 use Rattle.name_spec.specs.Names.{id_right}
-use borrow.Author.Rules.{rules}
 use Rattle.name_texts.proofs.checks.id_right.Goals as goal
 
 pub returns-then-id-gt-ID_LIMIT : goal.returns-then-id-gt-ID_LIMIT

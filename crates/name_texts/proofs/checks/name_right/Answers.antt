@@ -3,7 +3,6 @@
 use mathlib.Core.Bool.{and-false}
 use native.Mathlib.Omega.{arith}
 use lib.ListN.{length}
-use borrow.Author.Rules.{rules}
 use borrow.Author.Tests.{le-leb, lt-leb}
 use Rattle.name_spec.specs.Names.{name_limit, name_right}
 use Rattle.name_texts.proofs.checks.name_right.Goals as goal

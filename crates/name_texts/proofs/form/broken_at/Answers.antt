@@ -1,6 +1,6 @@
 -- `broken_at`: the walk through the stem stops, and behind a whole stem the end is due.
 -- Assumes nothing.
-use Prim.Native.Nat.{ℕ, ◌+◌, ◌-◌, ◌*◌, ◌/◌, ◌≤◌}
+use Prim.Native.Nat.{ℕ, ◌+◌, ◌*◌, ◌/◌, ◌≤◌}
 use mathlib.Core.Path.{◌≡◌, refl, sym, ap, ◌∙◌}
 use mathlib.Core.Bool.{true}
 use mathlib.Core.List.{List}
@@ -16,7 +16,6 @@ use Rattle.name_spec.specs.Names.{full_end}
 use Rattle.name_spec.specs.Places.{common, stem_allows}
 use Rattle.name_spec.proofs.Broken.{common-inside}
 use Rattle.name_texts.proofs.Stems.{limit-low, walked, walk_inside, in_stem, at-end}
-use borrow.Author.Rules.{rules}
 use Rattle.name_texts.proofs.form.broken_at.Goals as goal
 
 -- The lesser of two.

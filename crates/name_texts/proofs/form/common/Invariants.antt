@@ -1,12 +1,9 @@
 -- `common`: so far all characters are alike.
 -- Assumes nothing.
 use mathlib.Core.Path.{◌≡◌}
-use Prim.Native.Nat.{◌+◌, ◌-◌, ◌≤◌, ◌<◌}
-use native.Mathlib.Omega.{arith}
+use Prim.Native.Nat.{◌+◌, ◌-◌, ◌≤◌}
 use lib.ListN.{length, drop}
-use borrow.Author.Rules.{rules}
 use Rattle.name_spec.specs.Places.{common}
-use Rattle.name_texts.proofs.Stems.{end_over, text_over, other, alike}
 use Rattle.name_texts.proofs.form.common.Given as goal
 
 abbrev pub invariant-loop-i : goal.invariant-loop-i

@@ -17,7 +17,6 @@ use Rattle.encoding.proofs.Laws.{measured_is_accepted}
 use Rattle.name_spec.specs.Names.{full_end, stem}
 use Rattle.name_texts.proofs.Measured.{too_short, other-end, not_accepted, too_few, too_many, in_form}
 use Rattle.name_texts.proofs.Stems.{leading_stem}
-use borrow.Author.Rules.{rules}
 use Rattle.name_texts.proofs.form.name_length.Goals as goal
 
 pub returns-then-text-lt4 : goal.returns-then-text-lt4

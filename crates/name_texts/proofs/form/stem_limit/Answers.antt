@@ -1,7 +1,6 @@
 -- `stem_limit`: by the characters, or by the longest name.
 -- Assumes nothing.
 use native.Mathlib.Omega.{arith}
-use borrow.Author.Rules.{rules}
 use Rattle.name_texts.proofs.Stems.{by_characters, by_bytes}
 use Rattle.name_texts.proofs.form.stem_limit.Goals as goal
 

@@ -2,7 +2,6 @@
 -- Assumes nothing.
 use mathlib.Core.Path.{ap, ◌∙◌}
 use native.Mathlib.Omega.{arith}
-use borrow.Author.Rules.{rules}
 use Rattle.name_texts.specs.declared.form.Form.TheVariants.{Right, Broken}
 use Rattle.name_texts.proofs.Measured.{form_broken, form_right, broken_form, long_form, right_form}
 use Rattle.name_texts.proofs.form.text_form.Goals as goal

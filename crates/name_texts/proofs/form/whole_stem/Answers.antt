@@ -2,7 +2,6 @@
 -- Assumes nothing.
 use mathlib.Core.Path.{sym, ◌∙◌}
 use native.Mathlib.Omega.{arith}
-use borrow.Author.Rules.{rules}
 use Rattle.encoding.proofs.Answers.{refused-text}
 use Rattle.encoding.proofs.Laws.{measured_is_accepted}
 use Rattle.name_texts.proofs.Stems.{no_stem, short-stem, by_limit}

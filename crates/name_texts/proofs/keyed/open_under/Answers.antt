@@ -44,6 +44,9 @@ returns c =
     let m = under_key _ _ c.expand.ensures in
     let e = under_key _ _ c.expand-2.ensures in
     let z = x.sealed.now in
-    let p = spec.plain (aes 8 x.enc.now) z in record { value = c.open_into.ensures.value ∙ ap₂ (λ (f g : List ℕ → List ℕ). spec.good f g (x.ad.now ∷ []) z) m e; out_after = ap (λ (l : List ℕ). l ++ drop (length z - 16) x.out.now)
+    let p = spec.plain (aes 8 x.enc.now) z in record {
+      value = c.open_into.ensures.value ∙ ap₂ (λ (f g : List ℕ → List ℕ). spec.good f g (x.ad.now ∷ []) z) m e;
+      out_after = ap (λ (l : List ℕ). l ++ drop (length z - 16) x.out.now)
           (c.open_into.ensures.out_after ∙ ap (λ (g : List ℕ → List ℕ). spec.plain g z) e)
-          ∙ at_front p x.out.now (length z - 16) (length-plain (aes 8 x.enc.now) (length-aes 8 x.enc.now) z) }
+          ∙ at_front p x.out.now (length z - 16) (length-plain (aes 8 x.enc.now) (length-aes 8 x.enc.now) z);
+    }

@@ -14,7 +14,6 @@ use Rattle.encoding.specs.Base32 as base32
 use Rattle.name_spec.specs.Names.{sealed_id, id_hash}
 use Rattle.name_spec.proofs.Texts.{length-id_hash}
 use Rattle.name_texts.proofs.Placing.{front}
-use borrow.Author.Rules.{rules}
 use Rattle.name_texts.proofs.path.id_hash.Goals as goal
 
 sealed-length : (enc mac id : List ℕ) → length (sealed_id enc mac id) ≡ length id + 16

@@ -1,7 +1,7 @@
 -- `write_path`: the four parts of the path, each behind the one before.
 -- Assumes nothing.
 use Prim.Native.Nat.{ℕ, ◌-◌}
-use mathlib.Core.Path.{◌≡◌, refl, sym, ap, ap₂, ◌∙◌}
+use mathlib.Core.Path.{◌≡◌, refl, ap, ap₂, ◌∙◌}
 use mathlib.Core.List.{List, ◌++◌}
 use native.Mathlib.Omega.{arith}
 use lib.ListN.{length, take, drop, length-append}
@@ -11,7 +11,6 @@ use Rattle.octets.proofs.Lists.{part-rest}
 use Rattle.name_spec.specs.Names.{data_folder, slash, id_hash, path}
 use Rattle.name_spec.proofs.Texts.{length-id_hash}
 use Rattle.name_texts.proofs.Placing.{placed-after}
-use borrow.Author.Rules.{rules}
 use Rattle.name_texts.proofs.path.write_path.Goals as goal
 
 -- The four parts, one after the other.

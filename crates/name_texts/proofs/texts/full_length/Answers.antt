@@ -2,7 +2,6 @@
 -- Assumes nothing.
 use native.Mathlib.Omega.{arith}
 use Rattle.encoding.specs.Base64url.{encoded_length}
-use borrow.Author.Rules.{rules}
 use Rattle.name_texts.proofs.texts.full_length.Goals as goal
 
 pub overflow_add-result : goal.overflow_add-result

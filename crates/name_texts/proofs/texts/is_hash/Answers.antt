@@ -6,7 +6,6 @@ use Rattle.octets.specs.Bytes.{same}
 use Rattle.octets.proofs.Lists.{placed_all}
 use Rattle.name_spec.specs.Names.{hash_name}
 use Rattle.name_spec.proofs.Texts.{length_hash}
-use borrow.Author.Rules.{rules}
 use Rattle.name_texts.proofs.texts.is_hash.Goals as goal
 
 pub returns : goal.returns

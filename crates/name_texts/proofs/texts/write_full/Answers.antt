@@ -12,7 +12,6 @@ use Rattle.encoding.proofs.Laws.{encoded-length}
 use Rattle.name_spec.specs.Names.{name_limit, iv_size, full_end, sealed_name, full_name}
 use Rattle.name_spec.proofs.Texts.{length-sealed}
 use Rattle.name_texts.proofs.Placing.{front, placed-after}
-use borrow.Author.Rules.{rules}
 use Rattle.name_texts.proofs.texts.write_full.Goals as goal
 
 pub slice_bounds-encode-end : goal.slice_bounds-encode-end

@@ -13,7 +13,6 @@ use Rattle.encoding.specs.Base64url as base64url
 use Rattle.encoding.proofs.Laws.{encoded-length}
 use Rattle.name_spec.specs.Names.{hash_end, hash_name}
 use Rattle.name_texts.proofs.Placing.{placed-after}
-use borrow.Author.Rules.{rules}
 use Rattle.name_texts.proofs.texts.write_hash.Goals as goal
 
 pub encode-requires : goal.encode-requires

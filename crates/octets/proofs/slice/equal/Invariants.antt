@@ -1,15 +1,8 @@
 -- `equal`: the bytes passed are equal; at the end all are.
 -- Assumes nothing.
-use Prim.Native.Nat.{ℕ, ◌+◌, ◌-◌, ◌<◌, ◌≤◌}
-use mathlib.Core.Path.{◌≡◌, refl, ◌∙◌, ap, sym}
-use mathlib.Core.List.{List}
-use borrow.Author.Count.{below_more}
-use borrow.Author.Rules.{rules}
-use native.Mathlib.Omega.{arith}
+use Prim.Native.Nat.{ℕ, ◌-◌, ◌<◌, ◌≤◌}
+use mathlib.Core.Path.{◌≡◌}
 use lib.ListN.{length, get_or}
-use lib.Seq.{ext_get_or}
-use Rattle.octets.specs.Bytes.{same}
-use Rattle.octets.proofs.Equality.{same_self, same_not}
 use Rattle.octets.proofs.slice.equal.Given as goal
 
 abbrev pub invariant-loop-i : goal.invariant-loop-i

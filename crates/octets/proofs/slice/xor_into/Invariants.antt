@@ -1,16 +1,10 @@
 -- `xor_into`: after i turns the first i bytes are those of the sum.
 -- Assumes nothing.
-use Prim.Native.Nat.{ℕ, ◌+◌, ◌-◌, ◌<◌, ◌≤◌}
-use mathlib.Core.Path.{◌≡◌, refl, ◌∙◌, ap, sym}
-use mathlib.Core.List.{List, ◌++◌}
-use borrow.Author.Rules.{rules}
-use native.Mathlib.Omega.{arith}
-use lib.ListN.{length, get_or, set, length-set}
-use lib.Bits.{bit_xor}
+use Prim.Native.Nat.{◌-◌, ◌≤◌}
+use mathlib.Core.Path.{◌≡◌}
+use lib.ListN.{length}
 use Rattle.octets.specs.Bytes.{filled}
 use Rattle.octets.specs.Xors.{xors}
-use Rattle.octets.proofs.Lists.{fill_one, filled_at, filled_all}
-use Rattle.octets.proofs.Xors.{get_d_xors, length-xors}
 use Rattle.octets.proofs.slice.xor_into.Given as goal
 
 abbrev pub invariant-loop-i : goal.invariant-loop-i

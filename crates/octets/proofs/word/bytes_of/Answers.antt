@@ -1,7 +1,6 @@
 -- `bytes_of`: the four bytes in order.
 -- Assumes nothing.
 use Rattle.octets.specs.Words.{word_bytes}
-use borrow.Author.Rules.{rules}
 use Rattle.octets.proofs.word.bytes_of.Goals as goal
 
 pub returns : goal.returns

@@ -3,7 +3,6 @@
 use Prim.Native.Nat.{ℕ}
 use mathlib.Core.Path.{◌∙◌, ap}
 use mathlib.Core.List.{List}
-use borrow.Author.Rules.{rules}
 use Rattle.octets.specs.Bytes.{placed}
 use Rattle.octets.proofs.word.put_word.Goals as goal
 

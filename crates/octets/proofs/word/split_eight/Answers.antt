@@ -3,7 +3,6 @@
 use native.Mathlib.Omega.{arith}
 use Rattle.octets.specs.Words.{word_bytes}
 use Rattle.octets.proofs.BigEndian.{be_eight}
-use borrow.Author.Rules.{rules}
 use Rattle.octets.proofs.word.split_eight.Goals as goal
 
 pub returns : goal.returns

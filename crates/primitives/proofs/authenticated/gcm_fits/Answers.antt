@@ -1,8 +1,6 @@
 -- `gcm_fits`: the tests in the definition's order.
 -- Assumes nothing.
-use mathlib.Core.Path.{sym}
 use borrow.Author.Tests.{eq-eqb, ne_eqb, lt-ltb, le-ltb}
-use lib.ListN.{length}
 use Rattle.primitives.specs.Results.{gcm_fits}
 use Rattle.primitives.proofs.authenticated.gcm_fits.Goals as goal
 

@@ -16,7 +16,6 @@ use Rattle.ctr.specs.Ctr.{inc32, inc128, inc_of, ctr}
 use Rattle.ctr.proofs.Texts.{length-ctr}
 use Rattle.primitives.specs.Results.{end, ctr_in_place}
 use Rattle.primitives.proofs.Ends.{refused, done}
-use borrow.Author.Rules.{rules}
 use Rattle.primitives.proofs.counter.primitives_ctr_in_place.Goals as goal
 
 -- The whole buffer becomes the text, with the counter that the flag says.

@@ -1,13 +1,11 @@
 -- `primitives_cmac256`: the tests in order, and the tag under the expanded key.
 -- Assumes nothing.
-use Prim.Native.Nat.{ℕ, ◌≤◌}
+use Prim.Native.Nat.{ℕ}
 use mathlib.Core.Path.{◌≡◌, ◌∙◌, ap}
 use mathlib.Core.List.{List}
 use borrow.Author.Tests.{eq-eqb, ne_eqb, le-leb, lt-leb}
-use borrow.Author.Rules.{rules}
-use lib.ListN.{length}
 use Rattle.octets.specs.Bytes.{placed}
-use Rattle.aes_spec.specs.Cipher.{cipher, aes}
+use Rattle.aes_spec.specs.Cipher.{aes}
 use Rattle.aes.proofs.Ciphers.{under_key}
 use Rattle.siv.specs.Cmac.{cmac}
 use Rattle.primitives.specs.Results.{end, cmac256}

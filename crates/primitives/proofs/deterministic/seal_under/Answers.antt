@@ -1,10 +1,9 @@
 -- `seal_under`: sealing under the two expanded keys.
 -- Assumes nothing.
 use Prim.Native.Nat.{ℕ}
-use mathlib.Core.Path.{◌≡◌, ◌∙◌, ap₂}
+use mathlib.Core.Path.{◌∙◌, ap₂}
 use mathlib.Core.List.{List}
 use borrow.Author.Rules.{rules}
-use Rattle.aes_spec.specs.Cipher.{cipher, aes}
 use Rattle.aes.proofs.Ciphers.{under_key}
 use Rattle.siv.specs.Siv as spec
 use Rattle.siv.specs.Pieces.{pieces}

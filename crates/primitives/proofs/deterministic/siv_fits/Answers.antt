@@ -1,6 +1,5 @@
 -- `siv_fits`: the tests in the definition's order.
 -- Assumes nothing.
-use mathlib.Core.Path.{sym}
 use borrow.Author.Tests.{eq-eqb, ne_eqb}
 use Rattle.primitives.specs.Results.{siv_fits}
 use Rattle.primitives.proofs.deterministic.siv_fits.Goals as goal

@@ -12,7 +12,6 @@ use Rattle.octets.proofs.Lists.{part-rest}
 use Rattle.hmac.specs.Hmac.{hmac_sha256}
 use Rattle.primitives.specs.Results.{end, hmac_sha256_mac}
 use Rattle.primitives.proofs.Ends.{refused, done}
-use borrow.Author.Rules.{rules}
 use Rattle.primitives.proofs.hash.primitives_hmac_sha256.Goals as goal
 
 three_parts_lem : (m : List ℕ) (p q : ℕ) → p ≤ q → take p m ++ (take (q - p) (drop p m) ++ take (length m - q) (drop q m)) ≡ m

@@ -4,7 +4,6 @@ use Prim.Native.Nat.{ℕ}
 use mathlib.Core.Path.{◌≡◌, ◌∙◌, ap}
 use mathlib.Core.List.{List}
 use borrow.Author.Tests.{le-leb, lt-leb}
-use borrow.Author.Rules.{rules}
 use Rattle.octets.specs.Bytes.{placed}
 use Rattle.sha1_hash.specs.Message.{sha1}
 use Rattle.primitives.specs.Results.{end, sha1_digest}

@@ -1,9 +1,7 @@
 -- `primitives_base32`: the tests, and the text.
 -- Assumes nothing.
-use Prim.Native.Nat.{ℕ}
-use mathlib.Core.Path.{◌≡◌, ◌∙◌, ap}
+use mathlib.Core.Path.{◌∙◌, ap}
 use borrow.Author.Tests.{eq-eqb, ne_eqb, le-leb, lt-leb}
-use borrow.Author.Rules.{rules}
 use Rattle.encoding.specs.Base32 as spec
 use Rattle.primitives.specs.Results.{end, base32_text}
 use Rattle.primitives.proofs.Ends.{refused, done}

@@ -1,7 +1,6 @@
 -- `primitives_proper_text`: the test, told as a number.
 -- Assumes nothing.
 use mathlib.Core.Path.{sym, ap, ◌∙◌}
-use borrow.Author.Rules.{rules}
 use Rattle.primitives.specs.Results.{told}
 use Rattle.primitives.proofs.text.primitives_proper_text.Goals as goal
 

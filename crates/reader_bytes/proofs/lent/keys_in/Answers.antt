@@ -9,7 +9,6 @@ use lib.Seq.{length-take-le}
 use Rattle.octets.proofs.Lists.{placed_all}
 use Rattle.file_reader.specs.Kept.{keys_with}
 use Rattle.reader_bytes.specs.ReaderBytes.{keys_in}
-use borrow.Author.Rules.{rules}
 use Rattle.reader_bytes.proofs.lent.keys_in.Goals as goal
 
 pub returns : goal.returns

@@ -3,7 +3,6 @@
 use Prim.Native.Nat.{ℕ}
 use mathlib.Core.Path.{sym, ap₂, ◌∙◌}
 use mathlib.Core.List.{List}
-use borrow.Author.Rules.{rules}
 use Rattle.file_reader.specs.declared.keys.ReaderKeys.{ReaderKeys}
 use Rattle.file_reader.specs.Kept.{read_kept}
 use Rattle.reader_bytes.specs.ReaderBytes.{file_in}

@@ -5,7 +5,6 @@ use lib.ListN.{replicate}
 use lib.Seq.{length-take-le}
 use Rattle.octets.proofs.Lists.{at_front, front_filled}
 use Rattle.reader_bytes.proofs.Storing.{no_room, with_room}
-use borrow.Author.Rules.{rules}
 use Rattle.reader_bytes.proofs.stored.store_none.Goals as goal
 
 pub returns-then-out-lt-READER_SIZE : goal.returns-then-out-lt-READER_SIZE

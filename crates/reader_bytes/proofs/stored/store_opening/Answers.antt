@@ -11,7 +11,6 @@ use Rattle.answer.specs.Meaning.{row, meaning}
 use Rattle.file_reader.specs.declared.keys.ReaderKeys.{ReaderKeys}
 use Rattle.file_reader.proofs.Refusals.{refusal}
 use Rattle.reader_bytes.specs.ReaderBytes.{no_bytes_in, keys_after}
-use borrow.Author.Rules.{rules}
 use Rattle.reader_bytes.proofs.stored.store_opening.Goals as goal
 
 -- a refusal leaves the reader of no bytes

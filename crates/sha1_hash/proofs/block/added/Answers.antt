@@ -1,7 +1,6 @@
 -- `added`: five sums.
 -- Assumes nothing.
 use Rattle.sha1_hash.specs.Compression.{added}
-use Rattle.std.proofs.Common.{rules}
 use Rattle.sha1_hash.proofs.block.added.Goals as goal
 
 pub returns : goal.returns

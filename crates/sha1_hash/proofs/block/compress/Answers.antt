@@ -1,6 +1,6 @@
 -- `compress`: the schedule, the 80 steps and the sums.
 -- Assumes nothing.
-use Rattle.std.proofs.Common.{ℕ, List, ap, ◌∙◌, rules}
+use Rattle.std.proofs.Common.{ℕ, List, ap, ◌∙◌}
 use Rattle.sha1_hash.specs.Compression.{start, steps, added, compress}
 use Rattle.sha1_hash.proofs.block.compress.Goals as goal
 

@@ -1,10 +1,8 @@
 -- `extend`: after the turn t the first t + 1 words are the schedule's.
 -- Assumes nothing.
-use Rattle.std.proofs.Common.{◌≡◌, ◌-◌, ◌≤◌, length, take, sym, refl, ◌∙◌, arith, length-set, take_all, rules}
+use Rattle.std.proofs.Common.{◌≡◌, ◌-◌, ◌≤◌, length, take}
 use Rattle.hashing.specs.Schedule.{extended}
-use Rattle.hashing.proofs.Schedules.{extended_more}
 use Rattle.sha1_hash.specs.Compression.{next_word}
-use Rattle.sha1_hash.proofs.Schedule.{next_front}
 use Rattle.sha1_hash.proofs.block.extend.Given as goal
 
 abbrev pub invariant-loop-t : goal.invariant-loop-t

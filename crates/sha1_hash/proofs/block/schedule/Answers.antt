@@ -1,6 +1,6 @@
 -- `schedule`: the words of the block, and the 64 after them.
 -- Assumes nothing.
-use Rattle.std.proofs.Common.{ℕ, List, ap, ◌∙◌, rules}
+use Rattle.std.proofs.Common.{ℕ, List, ap, ◌∙◌}
 use Rattle.hashing.specs.Schedule.{extended}
 use Rattle.sha1_hash.specs.Compression.{next_word, schedule}
 use Rattle.sha1_hash.proofs.block.schedule.Goals as goal

@@ -1,6 +1,5 @@
 -- `step`: the sums in the standard's order.
 -- Assumes nothing.
-use Rattle.std.proofs.Common.{rules}
 use Rattle.sha1_hash.proofs.block.step.Goals as goal
 
 pub returns : goal.returns

@@ -1,9 +1,8 @@
 -- `steps_maj`: n steps are done.
 -- Assumes nothing.
-use Rattle.std.proofs.Common.{◌≡◌, ◌-◌, ◌≤◌, refl, arith, rules}
+use Rattle.std.proofs.Common.{◌≡◌, refl, arith, rules}
 use Rattle.hashing.specs.Operations.{maj}
 use Rattle.sha1_hash.specs.Compression.{steps}
-use Rattle.sha1_hash.specs.Working.{variables}
 use Rattle.sha1_hash.proofs.Steps.{steps_more, uses}
 use Rattle.sha1_hash.proofs.block.steps_maj.Goals as goal
 
@@ -13,8 +12,7 @@ loop-n-init c = (search rules, refl)
 
 pub loop-n-preserved : goal.loop-n-preserved
 loop-n-preserved c =
-    let l = c.loop-n in
-    (
+    let l = c.loop-n in (
       omega arith,
       steps_more c.args.w.now 40 l.n _ 0x8f1bbcdc _ maj _ _ l.y.a l.y.b l.y.c l.y.d l.y.e (uses 2) (omega arith) (omega arith) l.invariant.1 c.maj.ensures c.step-y.ensures,
     )

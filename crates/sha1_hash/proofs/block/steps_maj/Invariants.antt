@@ -1,10 +1,8 @@
 -- `steps_maj`: n steps are done.
 -- Assumes nothing.
-use Rattle.std.proofs.Common.{◌≡◌, ◌-◌, ◌≤◌, refl, arith, rules}
-use Rattle.hashing.specs.Operations.{maj}
+use Rattle.std.proofs.Common.{◌≡◌, ◌-◌, ◌≤◌}
 use Rattle.sha1_hash.specs.Compression.{steps}
 use Rattle.sha1_hash.specs.Working.{variables}
-use Rattle.sha1_hash.proofs.Steps.{steps_more, uses}
 use Rattle.sha1_hash.proofs.block.steps_maj.Given as goal
 
 abbrev pub invariant-loop-n : goal.invariant-loop-n

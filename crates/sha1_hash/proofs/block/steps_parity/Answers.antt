@@ -1,9 +1,8 @@
 -- `steps_parity`: n steps are done.
 -- Assumes nothing.
-use Rattle.std.proofs.Common.{◌≡◌, ◌-◌, ◌≤◌, refl, arith, rules}
+use Rattle.std.proofs.Common.{◌≡◌, refl, arith, rules}
 use Rattle.sha1_hash.specs.Operations.{parity}
 use Rattle.sha1_hash.specs.Compression.{steps}
-use Rattle.sha1_hash.specs.Working.{variables}
 use Rattle.sha1_hash.proofs.Steps.{steps_more}
 use Rattle.sha1_hash.proofs.block.steps_parity.Goals as goal
 
@@ -13,8 +12,7 @@ loop-n-init c = (search rules, refl)
 
 pub loop-n-preserved : goal.loop-n-preserved
 loop-n-preserved c =
-    let l = c.loop-n in
-    (
+    let l = c.loop-n in (
       omega arith,
       steps_more c.args.w.now c.args.t l.n _ c.args.k _ parity _ _ l.y.a l.y.b l.y.c l.y.d l.y.e c.requires.1 (omega arith) (omega arith) l.invariant.1 c.parity.ensures c.step-y.ensures,
     )

@@ -1,10 +1,8 @@
 -- `steps_parity`: n steps are done.
 -- Assumes nothing.
-use Rattle.std.proofs.Common.{◌≡◌, ◌-◌, ◌≤◌, refl, arith, rules}
-use Rattle.sha1_hash.specs.Operations.{parity}
+use Rattle.std.proofs.Common.{◌≡◌, ◌-◌, ◌≤◌}
 use Rattle.sha1_hash.specs.Compression.{steps}
 use Rattle.sha1_hash.specs.Working.{variables}
-use Rattle.sha1_hash.proofs.Steps.{steps_more}
 use Rattle.sha1_hash.proofs.block.steps_parity.Given as goal
 
 abbrev pub invariant-loop-n : goal.invariant-loop-n

@@ -1,6 +1,6 @@
 -- `finish`: the padding goes in, and all blocks are whole then.
 -- Assumes nothing.
-use Rattle.std.proofs.Common.{ℕ, ◌/◌, List, ◌++◌, length, sym, ap, ◌∙◌, arith, length-take-le, rules}
+use Rattle.std.proofs.Common.{ℕ, ◌/◌, List, ◌++◌, length, sym, ap, ◌∙◌, arith, length-take-le}
 use Rattle.octets.specs.Words.{word_bytes}
 use Rattle.hashing.specs.Message.{hash_from}
 use Rattle.hashing.specs.Running.{unhashed, finished}

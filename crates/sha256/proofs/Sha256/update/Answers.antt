@@ -1,6 +1,6 @@
 -- `update`: where bytes wait, the start of s completes their block, and the rest of s follows.
 -- Assumes nothing.
-use Rattle.std.proofs.Common.{◌≡◌, ◌-◌, ◌%◌, ◌++◌, length, take, drop, sym, refl, arith, take-append-drop, length-take, length-take-le, rules}
+use Rattle.std.proofs.Common.{◌≡◌, ◌-◌, ◌%◌, ◌++◌, length, take, drop, sym, refl, arith, take-append-drop, length-take, length-take-le}
 use Rattle.octets.proofs.Lists.{part-rest}
 use Rattle.hashing.proofs.Messages.{updated_twice}
 use Rattle.sha256.specs.Compression.{compress}

@@ -1,7 +1,6 @@
 -- `added`: eight sums.
 -- Assumes nothing.
 use Rattle.sha256.specs.Compression.{added}
-use Rattle.std.proofs.Common.{rules}
 use Rattle.sha256.proofs.block.added.Goals as goal
 
 pub returns : goal.returns

@@ -1,6 +1,6 @@
 -- `compress`: the schedule, the 64 steps and the sums.
 -- Assumes nothing.
-use Rattle.std.proofs.Common.{ℕ, List, ap, ◌∙◌, rules}
+use Rattle.std.proofs.Common.{ℕ, List, ap, ◌∙◌}
 use Rattle.sha256.specs.Compression.{start, steps, added, compress}
 use Rattle.sha256.proofs.block.compress.Goals as goal
 

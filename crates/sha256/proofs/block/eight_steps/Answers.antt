@@ -1,6 +1,6 @@
 -- `eight_steps`: one step after the other.
 -- Assumes nothing.
-use Rattle.std.proofs.Common.{◌≡◌, ℕ, ◌+◌, List, ap, ◌∙◌, arith, rules}
+use Rattle.std.proofs.Common.{◌≡◌, ℕ, ◌+◌, List, ap, ◌∙◌, arith}
 use Rattle.sha256.specs.Compression.{Variables, steps}
 use Rattle.sha256.proofs.block.eight_steps.Goals as goal
 

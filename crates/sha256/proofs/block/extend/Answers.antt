@@ -1,6 +1,6 @@
 -- `extend`: after the turn t the first t + 1 words are the schedule's.
 -- Assumes nothing.
-use Rattle.std.proofs.Common.{◌≡◌, ◌-◌, ◌≤◌, length, take, sym, refl, ◌∙◌, arith, length-set, take_all, rules}
+use Rattle.std.proofs.Common.{◌≡◌, take, sym, refl, ◌∙◌, arith, length-set, take_all, rules}
 use Rattle.hashing.specs.Schedule.{extended}
 use Rattle.hashing.proofs.Schedules.{extended_more}
 use Rattle.sha256.specs.Compression.{next_word}

@@ -1,6 +1,6 @@
 -- `next_word`: the sums in another order than the standard's.
 -- Assumes nothing.
-use Rattle.std.proofs.Common.{◌≡◌, ◌∙◌, rules}
+use Rattle.std.proofs.Common.{◌≡◌, ◌∙◌}
 use Rattle.hashing.specs.Operations.{plus}
 use Rattle.sha256.specs.Operations.{σ0, σ1}
 use Rattle.sha256.proofs.Sums.{turned}

@@ -1,7 +1,6 @@
 -- `step`: the standard's step.
 -- Assumes nothing.
 use Rattle.sha256.specs.Compression.{step}
-use Rattle.std.proofs.Common.{rules}
 use Rattle.sha256.proofs.block.step.Goals as goal
 
 pub returns : goal.returns

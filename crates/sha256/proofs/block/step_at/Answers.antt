@@ -1,6 +1,6 @@
 -- `step_at`: one step more.
 -- Assumes nothing.
-use Rattle.std.proofs.Common.{◌≡◌, ℕ, ◌+◌, List, get_or, ◌∙◌, add-one, rules}
+use Rattle.std.proofs.Common.{◌≡◌, ℕ, ◌+◌, List, get_or, ◌∙◌, add-one}
 use Rattle.sha256.specs.Constants.{constants}
 use Rattle.sha256.specs.Compression.{Variables, step, steps}
 use Rattle.sha256.specs.Working.{variables}

@@ -1,6 +1,6 @@
 -- `steps`: eight times i steps are done.
 -- Assumes nothing.
-use Rattle.std.proofs.Common.{◌≡◌, ℕ, ◌+◌, ◌-◌, ◌*◌, ◌≤◌, refl, ap, ◌∙◌, arith, rules}
+use Rattle.std.proofs.Common.{◌≡◌, ℕ, ◌+◌, ◌*◌, refl, ap, ◌∙◌, arith, rules}
 use Rattle.sha256.specs.Compression.{steps}
 use Rattle.sha256.specs.Working.{variables}
 use Rattle.sha256.proofs.block.steps.Goals as goal

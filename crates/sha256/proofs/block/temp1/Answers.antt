@@ -1,6 +1,6 @@
 -- `temp1`: the sums in another order than the standard's, so that only two wait for e.
 -- Assumes nothing.
-use Rattle.std.proofs.Common.{◌≡◌, ◌∙◌, rules}
+use Rattle.std.proofs.Common.{◌≡◌, ◌∙◌}
 use Rattle.hashing.specs.Operations.{plus, ch}
 use Rattle.sha256.specs.Operations.{Σ1}
 use Rattle.sha256.proofs.Sums.{last_first}

@@ -1,16 +1,11 @@
 -- `chain`: at each turn the chain is what the definition makes of the blocks that are left.
 -- Assumes nothing.
-use Prim.Native.Nat.{ℕ, ◌+◌, ◌-◌, ◌*◌, ◌≤◌}
-use mathlib.Core.Path.{◌≡◌, sym, ◌∙◌, ap}
-use mathlib.Core.List.{List}
-use borrow.Author.Rules.{rules}
-use native.Mathlib.Omega.{arith}
+use Prim.Native.Nat.{◌-◌, ◌*◌, ◌≤◌}
+use mathlib.Core.Path.{◌≡◌}
 use lib.ListN.{drop}
-use Rattle.octets.specs.Xors.{xors}
 use Rattle.aes_spec.specs.Cipher.{cipher}
 use Rattle.aes.specs.Blocks.{state}
 use Rattle.siv.specs.Cmac as spec
-use Rattle.siv.proofs.Chains.{chain-step, chain_zero}
 use Rattle.siv.proofs.cmac.chain.Given as goal
 
 abbrev pub invariant-loop-i : goal.invariant-loop-i

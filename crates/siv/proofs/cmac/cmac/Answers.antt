@@ -3,7 +3,6 @@
 use Prim.Native.Nat.{ℕ}
 use mathlib.Core.Path.{◌∙◌, ap}
 use mathlib.Core.List.{List}
-use borrow.Author.Rules.{rules}
 use Rattle.aes_spec.specs.Cipher.{cipher}
 use Rattle.siv.specs.Cmac as spec
 use Rattle.siv.proofs.cmac.cmac.Goals as goal

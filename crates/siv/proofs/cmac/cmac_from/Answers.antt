@@ -1,11 +1,10 @@
 -- `cmac_from`: the blocks before the last one, and the last.
 -- Assumes nothing.
-use Prim.Native.Nat.{ℕ, ◌+◌, ◌-◌, ◌*◌, ◌/◌, ◌≤◌}
+use Prim.Native.Nat.{ℕ, ◌-◌, ◌*◌, ◌/◌}
 use mathlib.Core.Path.{◌≡◌, refl, sym, ◌∙◌, ap, ap₂}
 use mathlib.Core.List.{List}
-use borrow.Author.Rules.{rules}
 use native.Mathlib.Omega.{arith}
-use lib.ListN.{length, take, drop, length-drop}
+use lib.ListN.{length, drop}
 use Rattle.octets.specs.Xors.{xors}
 use Rattle.octets.proofs.Lists.{part-rest}
 use Rattle.aes_spec.specs.Cipher.{cipher}

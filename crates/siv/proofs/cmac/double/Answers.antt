@@ -1,6 +1,5 @@
 -- `double`: the words, each with the next one's highest bit, and the reduction.
 -- Assumes nothing.
-use borrow.Author.Rules.{rules}
 use native.Mathlib.Omega.{arith}
 use Rattle.siv.proofs.Doubling.{doubled}
 use Rattle.siv.proofs.cmac.double.Goals as goal

@@ -3,7 +3,6 @@
 use Prim.Native.Nat.{ℕ}
 use mathlib.Core.Path.{◌≡◌, refl, ◌∙◌, ap, ap₂}
 use mathlib.Core.List.{List, ◌++◌, [], ◌∷◌}
-use borrow.Author.Rules.{rules}
 use lib.ListN.{length}
 use Rattle.octets.specs.Bytes.{same}
 use Rattle.octets.proofs.Lists.{part-rest}
@@ -20,5 +19,8 @@ returns c =
     c.crypt_under.ensures
     ∙ ap₂ (spec.crypt (cipher 14 x.enc.now)) c.block_at-v.ensures (part-rest x.sealed.now (length x.sealed.now) 16 refl) in
     let x = c.args in
-    let e = cipher 14 x.mac.now in record { value = c.equal.ensures
-          ∙ ap₂ same (c.s2v.ensures ∙ ap (λ (l : List ℕ). spec.s2v e (pieces x.given x.ad.now ++ (l ∷ []))) (text)) c.block_at-v.ensures; out_after = text }
+    let e = cipher 14 x.mac.now in record {
+      value = c.equal.ensures
+          ∙ ap₂ same (c.s2v.ensures ∙ ap (λ (l : List ℕ). spec.s2v e (pieces x.given x.ad.now ++ (l ∷ []))) (text)) c.block_at-v.ensures;
+      out_after = text;
+    }

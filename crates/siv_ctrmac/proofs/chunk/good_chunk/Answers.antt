@@ -5,7 +5,6 @@ use mathlib.Core.Path.{◌∙◌, ap}
 use mathlib.Core.List.{List, ◌++◌}
 use Rattle.hmac.specs.Hmac.{hmac_sha256}
 use Rattle.siv_ctrmac.specs.SivCtrmac.{opens, chunk_data}
-use borrow.Author.Rules.{rules}
 use Rattle.siv_ctrmac.proofs.chunk.good_chunk.Goals as goal
 
 pub returns : goal.returns

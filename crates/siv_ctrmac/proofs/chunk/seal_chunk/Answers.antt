@@ -6,7 +6,6 @@ use mathlib.Core.List.{List, ◌++◌}
 use Rattle.aes_spec.specs.Cipher.{cipher}
 use Rattle.hmac.specs.Hmac.{hmac_sha256}
 use Rattle.siv_ctrmac.specs.SivCtrmac.{sealed, chunk_data}
-use borrow.Author.Rules.{rules}
 use Rattle.siv_ctrmac.proofs.chunk.seal_chunk.Goals as goal
 
 pub returns : goal.returns

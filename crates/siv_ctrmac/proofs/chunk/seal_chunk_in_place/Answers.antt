@@ -7,7 +7,6 @@ use lib.ListN.{length, take, drop}
 use Rattle.aes_spec.specs.Cipher.{cipher}
 use Rattle.hmac.specs.Hmac.{hmac_sha256}
 use Rattle.siv_ctrmac.specs.SivCtrmac.{sealed, chunk_data}
-use borrow.Author.Rules.{rules}
 use Rattle.siv_ctrmac.proofs.chunk.seal_chunk_in_place.Goals as goal
 
 pub returns : goal.returns

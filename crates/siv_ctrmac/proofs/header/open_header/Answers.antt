@@ -1,6 +1,6 @@
 -- `open_header`: the MAC is tested, and then the payload is written.
 -- Assumes nothing.
-use Prim.Native.Nat.{ℕ, ◌-◌}
+use Prim.Native.Nat.{ℕ}
 use mathlib.Core.Path.{◌≡◌, refl, sym, ◌∙◌, ap}
 use mathlib.Core.List.{List, []}
 use borrow.Author.Tests.{not-true, not-false}

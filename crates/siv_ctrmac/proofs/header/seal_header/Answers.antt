@@ -6,7 +6,6 @@ use mathlib.Core.List.{List, []}
 use Rattle.aes.proofs.Ciphers.{under_key}
 use Rattle.hmac.specs.Hmac.{hmac_sha256}
 use Rattle.siv_ctrmac.specs.SivCtrmac.{sealed, header_of}
-use borrow.Author.Rules.{rules}
 use Rattle.siv_ctrmac.proofs.header.seal_header.Goals as goal
 
 pub returns : goal.returns

@@ -1,6 +1,6 @@
 -- `encipher`: the nonce goes to the front of out, and the ciphertext after it.
 -- Assumes nothing.
-use Prim.Native.Nat.{ℕ, ◌+◌, ◌-◌}
+use Prim.Native.Nat.{ℕ, ◌-◌}
 use mathlib.Core.Path.{◌≡◌, refl, ◌∙◌, ap, ap₂}
 use mathlib.Core.List.{List, ◌++◌}
 use native.Mathlib.Omega.{arith}
@@ -12,7 +12,6 @@ use Rattle.aes.specs.Blocks.{state}
 use Rattle.aes.proofs.Ciphers.{length-cipher}
 use Rattle.ctr.specs.Ctr.{inc128, ctr}
 use Rattle.ctr.proofs.Texts.{length-ctr}
-use borrow.Author.Rules.{rules}
 use Rattle.siv_ctrmac.proofs.stored.encipher.Goals as goal
 
 pub returns : goal.returns

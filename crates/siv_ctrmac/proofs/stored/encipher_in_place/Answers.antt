@@ -10,7 +10,6 @@ use Rattle.octets.proofs.Lists.{part-rest, placed-rest, rest_kept}
 use Rattle.aes_spec.specs.Cipher.{cipher}
 use Rattle.aes.specs.Blocks.{state}
 use Rattle.ctr.specs.Ctr.{inc128, ctr}
-use borrow.Author.Rules.{rules}
 use Rattle.siv_ctrmac.proofs.stored.encipher_in_place.Goals as goal
 
 pub returns : goal.returns

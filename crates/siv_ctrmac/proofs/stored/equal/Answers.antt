@@ -10,7 +10,6 @@ use lib.Seq.{take_all}
 use borrow.Author.Tests.{eq-eqb, eqb-true}
 use Rattle.octets.specs.Bytes.{same}
 use Rattle.octets.proofs.Equality.{same_self, same_eq, iff}
-use borrow.Author.Rules.{rules}
 use Rattle.siv_ctrmac.proofs.stored.equal.Goals as goal
 
 halves : (a b : List ℕ) (x y : ℕ) → length a ≡ 32 → length b ≡ 32

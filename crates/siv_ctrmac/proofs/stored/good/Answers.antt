@@ -10,7 +10,6 @@ use Rattle.octets.specs.Bytes.{same}
 use Rattle.octets.proofs.Lists.{part-rest}
 use Rattle.hmac.specs.Hmac.{hmac_sha256}
 use Rattle.siv_ctrmac.specs.SivCtrmac.{opens}
-use borrow.Author.Rules.{rules}
 use Rattle.siv_ctrmac.proofs.stored.good.Goals as goal
 
 pub slice_bounds-mac-end : goal.slice_bounds-mac-end

@@ -11,7 +11,6 @@ use Rattle.aes.proofs.Ciphers.{length-cipher}
 use Rattle.ctr.specs.Ctr.{inc128, ctr}
 use Rattle.siv_ctrmac.specs.SivCtrmac.{opened}
 use Rattle.siv_ctrmac.proofs.Sealed.{length-opened}
-use borrow.Author.Rules.{rules}
 use Rattle.siv_ctrmac.proofs.stored.open_in_place.Goals as goal
 
 pub returns : goal.returns

@@ -8,7 +8,6 @@ use lib.ListN.{length, take, drop}
 use Rattle.aes_spec.specs.Cipher.{cipher}
 use Rattle.ctr.specs.Ctr.{inc128, ctr}
 use Rattle.siv_ctrmac.specs.SivCtrmac.{opened}
-use borrow.Author.Rules.{rules}
 use Rattle.siv_ctrmac.proofs.stored.open_part.Goals as goal
 
 pub returns : goal.returns

@@ -10,7 +10,6 @@ use Rattle.octets.specs.Bytes.{placed}
 use Rattle.octets.proofs.Lists.{placed-behind}
 use Rattle.hmac.specs.Hmac.{hmac_sha256}
 use Rattle.hmac.proofs.Laws.{mac-bytes}
-use borrow.Author.Rules.{rules}
 use Rattle.siv_ctrmac.proofs.stored.put_mac.Goals as goal
 
 pub slice_bounds-mac-end-2 : goal.slice_bounds-mac-end-2

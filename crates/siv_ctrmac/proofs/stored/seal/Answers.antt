@@ -9,7 +9,6 @@ use lib.Seq.{length-take-le}
 use Rattle.aes_spec.specs.Cipher.{cipher}
 use Rattle.hmac.specs.Hmac.{hmac_sha256}
 use Rattle.siv_ctrmac.proofs.Sealed.{sealed_front}
-use borrow.Author.Rules.{rules}
 use Rattle.siv_ctrmac.proofs.stored.seal.Goals as goal
 
 pub slice_bounds-encipher-end-2 : goal.slice_bounds-encipher-end-2

@@ -10,7 +10,6 @@ use Rattle.aes_spec.specs.Cipher.{cipher}
 use Rattle.ctr.specs.Ctr.{inc128, ctr}
 use Rattle.hmac.specs.Hmac.{hmac_sha256}
 use Rattle.siv_ctrmac.proofs.Sealed.{sealed_front}
-use borrow.Author.Rules.{rules}
 use Rattle.siv_ctrmac.proofs.stored.seal_in_place.Goals as goal
 
 pub slice_bounds-encipher_in_place-end-2 : goal.slice_bounds-encipher_in_place-end-2

@@ -10,7 +10,6 @@ use Rattle.octets.specs.BigEndian.{be}
 use Rattle.octets.proofs.BigEndian.{length-be}
 use Rattle.octets.proofs.Lists.{placed-behind}
 use Rattle.siv_gcm.specs.SivGcm.{chunk_data}
-use borrow.Author.Rules.{rules}
 use Rattle.siv_gcm.proofs.chunk.chunk_data.Goals as goal
 
 whole : (b v : List ℕ) → length b ≡ 8 → length v ≡ 12 → placed v 8 (placed b 0 (replicate 20 0)) ≡ b ++ v

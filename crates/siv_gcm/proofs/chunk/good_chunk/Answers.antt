@@ -1,6 +1,5 @@
 -- `good_chunk`: the test of the tag with the associated data of the chunk.
 -- Assumes nothing.
-use borrow.Author.Rules.{rules}
 use Prim.Native.Nat.{ℕ}
 use mathlib.Core.Path.{◌∙◌, ap}
 use mathlib.Core.List.{List}

@@ -1,6 +1,5 @@
 -- `seal_chunk`: sealing with the associated data of the chunk.
 -- Assumes nothing.
-use borrow.Author.Rules.{rules}
 use Prim.Native.Nat.{ℕ}
 use mathlib.Core.Path.{◌∙◌, ap}
 use mathlib.Core.List.{List}

@@ -6,7 +6,6 @@ use mathlib.Core.List.{List}
 use lib.ListN.{length, take, drop}
 use Rattle.aes_spec.specs.Cipher.{cipher}
 use Rattle.siv_gcm.specs.SivGcm.{sealed}
-use borrow.Author.Rules.{rules}
 use Rattle.siv_gcm.proofs.chunk.seal_chunk_in_place.Goals as goal
 
 pub returns : goal.returns

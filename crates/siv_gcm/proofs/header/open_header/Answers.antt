@@ -1,7 +1,7 @@
 -- `open_header`: the tag is tested, and then the payload is written.
 -- Assumes nothing.
 use borrow.Author.Rules.{rules}
-use Prim.Native.Nat.{ℕ, ◌-◌}
+use Prim.Native.Nat.{ℕ}
 use mathlib.Core.Path.{◌≡◌, refl, sym, ◌∙◌, ap}
 use mathlib.Core.List.{List, []}
 use borrow.Author.Tests.{not-true, not-false}

@@ -4,7 +4,6 @@ use Prim.Native.Nat.{ℕ}
 use mathlib.Core.Path.{◌∙◌, ap₂}
 use mathlib.Core.List.{List, []}
 use Rattle.siv_gcm.specs.SivGcm.{sealed, header_of}
-use borrow.Author.Rules.{rules}
 use Rattle.siv_gcm.proofs.header.seal_header.Goals as goal
 
 pub returns : goal.returns

@@ -12,7 +12,6 @@ use Rattle.aes.proofs.Ciphers.{length-cipher}
 use Rattle.gcm.specs.Gcm as gcm
 use Rattle.siv_gcm.specs.SivGcm.{opened}
 use Rattle.siv_gcm.proofs.Sealed.{opened-length}
-use borrow.Author.Rules.{rules}
 use Rattle.siv_gcm.proofs.stored.open_in_place.Goals as goal
 
 pub slice_bounds-copy_at-end-2 : goal.slice_bounds-copy_at-end-2

@@ -1,7 +1,7 @@
 -- `seal`: the nonce goes to the front of out, and the sealed cleartext after it.
 -- Assumes nothing.
 use borrow.Author.Rules.{rules}
-use Prim.Native.Nat.{ℕ, ◌+◌}
+use Prim.Native.Nat.{ℕ}
 use mathlib.Core.Path.{◌∙◌, ap}
 use mathlib.Core.List.{List, ◌++◌}
 use Rattle.octets.proofs.Lists.{placed-rest}

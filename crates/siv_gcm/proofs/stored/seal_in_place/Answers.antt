@@ -9,7 +9,6 @@ use Rattle.octets.proofs.Lists.{part-rest, placed-rest, rest_kept}
 use Rattle.aes_spec.specs.Cipher.{cipher}
 use Rattle.gcm.specs.Gcm as gcm
 use Rattle.siv_gcm.specs.SivGcm.{sealed}
-use borrow.Author.Rules.{rules}
 use Rattle.siv_gcm.proofs.stored.seal_in_place.Goals as goal
 
 pub returns : goal.returns

@@ -6,7 +6,6 @@ use Rattle.aes_spec.specs.Cipher.{cipher}
 use Rattle.vault.specs.Vault.{sizes_of}
 use Rattle.vault.specs.Under.{good_under}
 use Rattle.vault.specs.declared.record.Combo.{Combo}
-use borrow.Author.Rules.{rules}
 use Rattle.vault.proofs.chunk.good_chunk.Goals as goal
 
 pub good_chunk-requires : goal.good_chunk-requires

@@ -8,7 +8,6 @@ use Rattle.vault.specs.Vault.{sizes_of}
 use Rattle.vault.specs.Under.{opened_under}
 use Rattle.vault.specs.declared.record.Combo.{Combo}
 use Rattle.vault.proofs.Combos.{tagged_gcm, tagged_ctrmac}
-use borrow.Author.Rules.{rules}
 use Rattle.vault.proofs.chunk.open_part.Goals as goal
 
 pub open_part-requires : goal.open_part-requires

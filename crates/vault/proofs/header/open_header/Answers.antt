@@ -5,7 +5,6 @@ use mathlib.Core.Bool.{cond}
 use Rattle.frame.specs.Frame.{payload_of}
 use Rattle.vault.specs.Vault.{sizes_of, codec_with}
 use Rattle.vault.specs.declared.record.Combo.{Combo}
-use borrow.Author.Rules.{rules}
 use Rattle.vault.proofs.header.open_header.Goals as goal
 
 pub open_header-requires : goal.open_header-requires

@@ -4,7 +4,6 @@ use mathlib.Core.Path.{sym, ◌∙◌, ap}
 use Rattle.frame.specs.Frame.{own_head}
 use Rattle.vault.specs.Vault.{sizes_of, codec_with}
 use Rattle.vault.specs.declared.record.Combo.{Combo}
-use borrow.Author.Rules.{rules}
 use Rattle.vault.proofs.header.seal_header.Goals as goal
 
 pub seal_header-requires : goal.seal_header-requires

@@ -5,7 +5,6 @@ use mathlib.Core.Path.{sym}
 use native.Mathlib.Omega.{arith}
 use Rattle.frame.specs.Layout.{clear_length}
 use Rattle.vault.proofs.Quotients.{no_more, short}
-use borrow.Author.Rules.{rules}
 use Rattle.vault.proofs.lengths.clear_by.Goals as goal
 
 pub returns-then-l-z : goal.returns-then-l-z

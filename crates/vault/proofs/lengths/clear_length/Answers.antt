@@ -4,7 +4,6 @@ use Prim.Native.Nat.{◌≤◌}
 use mathlib.Core.Path.{◌∙◌, sym, ap, subst}
 use Rattle.frame.specs.Layout.{Sizes, clear_length}
 use Rattle.vault.proofs.Combos.{small_overhead}
-use borrow.Author.Rules.{rules}
 use Rattle.vault.proofs.lengths.clear_length.Goals as goal
 
 pub clear_by-requires : goal.clear_by-requires

@@ -10,7 +10,6 @@ use Rattle.vault.specs.declared.record.Combo.{Combo}
 use Rattle.vault.specs.Vault.{sizes_of}
 use Rattle.vault.specs.Under.{sizes_in}
 use Rattle.vault.proofs.Combos.{small_header, small_overhead}
-use borrow.Author.Rules.{rules}
 use Rattle.vault.proofs.lengths.file_length.Goals as goal
 
 small : (z : ComboSizes) (k : Combo) → sizes_in z ≡ sizes_of k → (z.header ≤ 88) × (z.overhead ≤ 48)

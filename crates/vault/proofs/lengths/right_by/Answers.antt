@@ -7,7 +7,6 @@ use native.Mathlib.Omega.{arith}
 use Rattle.frame.specs.Layout.{limit}
 use Rattle.frame.proofs.Lengths.{right-short, right-whole, right-part, right_left}
 use Rattle.vault.specs.Under.{sizes_in}
-use borrow.Author.Rules.{rules}
 use Rattle.vault.proofs.lengths.right_by.Goals as goal
 
 pub returns-then-l-z : goal.returns-then-l-z

@@ -4,7 +4,6 @@ use Prim.Native.Nat.{◌≤◌}
 use mathlib.Core.Path.{◌∙◌, sym, ap, subst}
 use Rattle.frame.specs.Layout.{Sizes, right_length}
 use Rattle.vault.proofs.Combos.{small_overhead}
-use borrow.Author.Rules.{rules}
 use Rattle.vault.proofs.lengths.right_length.Goals as goal
 
 pub right_by-requires : goal.right_by-requires

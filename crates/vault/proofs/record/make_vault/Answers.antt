@@ -16,7 +16,6 @@ use Rattle.frame.specs.Rules.{KeySizes}
 use Rattle.frame.proofs.KeySizes.{master_sizes}
 use Rattle.vault.specs.Vault.{vault_with}
 use Rattle.vault.proofs.Making.{made, no_keys, no_threshold}
-use borrow.Author.Rules.{rules}
 use Rattle.vault.proofs.record.make_vault.Goals as goal
 
 pub returns-then-not-master_keys_right : goal.returns-then-not-master_keys_right

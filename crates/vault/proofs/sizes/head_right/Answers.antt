@@ -4,7 +4,6 @@ use mathlib.Core.Path.{sym, ◌∙◌, ap}
 use borrow.Author.Tests.{eq-eqb, ne_eqb}
 use Rattle.frame.specs.Layout.{Sizes}
 use Rattle.frame.specs.Frame.{own_head, head_right}
-use borrow.Author.Rules.{rules}
 use Rattle.vault.proofs.sizes.head_right.Goals as goal
 
 pub returns-then-nonce-sizes_of : goal.returns-then-nonce-sizes_of

@@ -2,7 +2,6 @@
 -- Assumes nothing.
 use mathlib.Core.Path.{sym, ap}
 use Rattle.vault.specs.Vault.{sizes_of}
-use borrow.Author.Rules.{rules}
 use Rattle.vault.proofs.sizes.sizes_of.Goals as goal
 
 pub returns-in-SivGcm : goal.returns-in-SivGcm
