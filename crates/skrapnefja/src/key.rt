@@ -7,12 +7,7 @@ use crate::ending::end;
 use key_wrap::{unwrap_key, wrap_key};
 
 // Wraps a key under a key-encryption key: 40 bytes.
-pub fn skrapnefja_wrap_key(
-    kek: &[u8],
-    key: &[u8],
-    out: &mut [u8],
-    written: &mut u64,
-) -> u32
+pub fn skrapnefja_wrap_key(kek: &[u8], key: &[u8], out: &mut [u8], written: &mut u64) -> u32
     ensures { plain_result result out.new written.new ≡ result_of (wrap_key kek.now key.now out.old) written.old }
 {
     end(wrap_key(kek, key, out), written)

@@ -11,11 +11,7 @@ use content::lengths::{cleartext_length, file_length};
 use vault_bytes::{lent_row, vault_in};
 
 // The length of the file of a cleartext of this length.
-pub fn skrapnefja_file_length(
-    vault: &[u8],
-    cleartext_length: u64,
-    written: &mut u64,
-) -> u32
+pub fn skrapnefja_file_length(vault: &[u8], cleartext_length: u64, written: &mut u64) -> u32
     ensures { plain_result result [] written.new ≡ result_of (lent_end vault.now (λ v. ended (file_length_of (sizes_of v.combo) cleartext_length) []) []) written.old }
 {
     let row = lent_row(vault);
@@ -29,11 +25,7 @@ pub fn skrapnefja_file_length(
 }
 
 // The length of the cleartext of a file of this length.
-pub fn skrapnefja_cleartext_length(
-    vault: &[u8],
-    file_length: u64,
-    written: &mut u64,
-) -> u32
+pub fn skrapnefja_cleartext_length(vault: &[u8], file_length: u64, written: &mut u64) -> u32
     ensures { plain_result result [] written.new ≡ result_of (lent_end vault.now (λ v. ended (clear_length_of (sizes_of v.combo) file_length) []) []) written.old }
 {
     let row = lent_row(vault);

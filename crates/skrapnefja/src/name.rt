@@ -75,12 +75,7 @@ pub fn skrapnefja_open_long_name(
 }
 
 // Writes the path of the directory with this ID: 36 characters.
-pub fn skrapnefja_dir_path(
-    vault: &[u8],
-    dir_id: &[u8],
-    out: &mut [u8],
-    written: &mut u64,
-) -> u32
+pub fn skrapnefja_dir_path(vault: &[u8], dir_id: &[u8], out: &mut [u8], written: &mut u64) -> u32
     ensures { plain_result result out.new written.new ≡ result_of (path_end vault.now dir_id.now out.old) written.old }
 {
     let row = lent_row(vault);

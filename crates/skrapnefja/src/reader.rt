@@ -9,12 +9,7 @@ use reader_bytes::stored::store_reader;
 use vault_bytes::{lent_row, vault_in};
 
 // Makes a reader of a file: writes its keys, 65 bytes, or 65 zeros where the file is refused. `written` is the length of the cleartext.
-pub fn skrapnefja_open_reader(
-    vault: &[u8],
-    file: &[u8],
-    keys: &mut [u8],
-    written: &mut u64,
-) -> u32
+pub fn skrapnefja_open_reader(vault: &[u8], file: &[u8], keys: &mut [u8], written: &mut u64) -> u32
     ensures { plain_result result keys.new written.new ≡ result_of (store_lent vault.now file.now keys.old) written.old }
 {
     let row = lent_row(vault);

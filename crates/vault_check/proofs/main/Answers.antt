@@ -1,6 +1,6 @@
 -- `main`: the line lies within its buffer.
 -- Assumes nothing.
-use Rattle.std.proofs.Common.{◌≤◌, length, arith, sym}
+use Rattle.std.proofs.Common.{◌≤◌, arith, sym}
 use lib.Seq.{length-take-le}
 use Rattle.check_line.proofs.Checks.{written-fits}
 use Rattle.vault_check.proofs.main.Goals as goal

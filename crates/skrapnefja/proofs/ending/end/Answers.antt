@@ -1,6 +1,5 @@
 -- `end`: a success writes its length, and a refusal leaves `written`.
 -- Assumes nothing.
-use borrow.Author.Rules.{rules}
 use mathlib.Core.Path.{sym, ap, ◌∙◌}
 use Rattle.octets.specs.Rows.{number}
 use Rattle.answer.specs.Meaning.{meaning}

@@ -1,7 +1,6 @@
 -- `end_at`: a success writes its length, and a refusal the number that it bears.
 -- Assumes nothing.
 use mathlib.Core.Path.{sym, ap, ◌∙◌}
-use borrow.Author.Rules.{rules}
 use Rattle.octets.specs.Rows.{number}
 use Rattle.answer.specs.Meaning.{meaning}
 use Rattle.answer.specs.declared.Answer.{Answer}

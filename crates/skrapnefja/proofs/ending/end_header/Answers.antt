@@ -1,6 +1,5 @@
 -- `end_header`: the reserved bytes, and then the ending of a call that answers a length.
 -- Assumes nothing.
-use borrow.Author.Rules.{rules}
 use mathlib.Core.Path.{sym, ◌∙◌}
 use Rattle.skrapnefja.proofs.Refusals.{beside_reserved}
 use Rattle.skrapnefja.proofs.ending.end_header.Goals as goal

@@ -1,7 +1,6 @@
 -- `end_label`: a success writes the combo and the threshold, and a refusal the place that it bears.
 -- Assumes nothing.
 use mathlib.Core.Path.{sym, ap, ◌∙◌}
-use borrow.Author.Rules.{rules}
 use Rattle.octets.specs.Rows.{number}
 use Rattle.label.specs.Opened.{label_meaning}
 use Rattle.label.specs.declared.open.LabelAnswer.{LabelAnswer}

@@ -1,6 +1,5 @@
 -- `end_name`: a success writes both lengths, 0 for the one that a plain name has not, and a refusal leaves them.
 -- Assumes nothing.
-use borrow.Author.Rules.{rules}
 use mathlib.Core.Path.{sym, ap, ◌∙◌}
 use Rattle.octets.specs.Rows.{number}
 use Rattle.answer.specs.Meaning.{name_meaning}

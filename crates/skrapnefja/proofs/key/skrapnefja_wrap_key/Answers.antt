@@ -1,6 +1,5 @@
 -- `skrapnefja_wrap_key`: the call, and its answer as C takes it.
 -- Assumes nothing.
-use borrow.Author.Rules.{rules}
 use Rattle.skrapnefja.proofs.Joined.{joined}
 use Rattle.skrapnefja.proofs.key.skrapnefja_wrap_key.Goals as goal
 

@@ -1,6 +1,5 @@
 -- `skrapnefja_open_label`: as `open_label` answers.
 -- Assumes nothing.
-use borrow.Author.Rules.{rules}
 use Rattle.skrapnefja.proofs.Joined.{joined-label}
 use Rattle.skrapnefja.proofs.labels.skrapnefja_open_label.Goals as goal
 

@@ -3,7 +3,6 @@
 use mathlib.Core.Path.{sym, ap, ◌∙◌}
 use mathlib.Core.List.{[]}
 use Rattle.octets.specs.Rows.{Outcome, ended}
-use borrow.Author.Rules.{rules}
 use Rattle.vault_bytes.proofs.Lending.{lent-size, lent_under}
 use Rattle.skrapnefja.proofs.Joined.{joined, lent_row_lem}
 use Rattle.skrapnefja.proofs.lengths.skrapnefja_file_length.Goals as goal

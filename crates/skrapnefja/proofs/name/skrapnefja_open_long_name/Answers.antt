@@ -1,7 +1,6 @@
 -- `skrapnefja_open_long_name`: the row of the lent bytes, or the call and its answer as C takes it.
 -- Assumes nothing.
 use mathlib.Core.Path.{sym, ◌∙◌}
-use borrow.Author.Rules.{rules}
 use Rattle.vault_bytes.proofs.Lending.{lent-name-size, lent_under}
 use Rattle.skrapnefja.proofs.Joined.{joined_at, lent-row-at}
 use Rattle.skrapnefja.proofs.name.skrapnefja_open_long_name.Goals as goal

@@ -1,7 +1,6 @@
 -- `skrapnefja_open_reader`: the row of the lent bytes, or the call and its answer as C takes it.
 -- Assumes nothing.
 use mathlib.Core.Path.{sym, ◌∙◌}
-use borrow.Author.Rules.{rules}
 use Rattle.vault_bytes.proofs.Lending.{lent-size, lent_under}
 use Rattle.skrapnefja.proofs.Joined.{joined, lent_row_lem}
 use Rattle.skrapnefja.proofs.reader.skrapnefja_open_reader.Goals as goal

@@ -1,6 +1,5 @@
 -- `skrapnefja_reader_read`: the call, and its answer as C takes it.
 -- Assumes nothing.
-use borrow.Author.Rules.{rules}
 use Rattle.skrapnefja.proofs.Joined.{joined_at}
 use Rattle.skrapnefja.proofs.reader.skrapnefja_reader_read.Goals as goal
 

@@ -1,6 +1,5 @@
 -- `skrapnefja_make_vault`: the call, and its answer as C takes it.
 -- Assumes nothing.
-use borrow.Author.Rules.{rules}
 use Rattle.skrapnefja.proofs.Joined.{joined}
 use Rattle.skrapnefja.proofs.record.skrapnefja_make_vault.Goals as goal
 
