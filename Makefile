@@ -38,14 +38,14 @@ test:
 libraries:
 	@mkdir -p target/staticlib
 	for library in skrapnefja primitives; do
-		rt lib "$${library}_c"
+		(cd "crates/$${library}_c" && rt lib)
 		cp "crates/$${library}_c/out/lib$${library}_c.a" "target/staticlib/lib$$library.a"
 	done
 
 # The check program.
 program:
 	@mkdir -p target/bin
-	rt run vault_check </dev/null >/dev/null
+	(cd crates/vault_check && rt run </dev/null >/dev/null)
 	cp crates/vault_check/out/vault_check target/bin/
 
 # Compares random calls: SEED=7 CALLS=1000000 make soak. The seed is printed, and a call that failed can be made again.
