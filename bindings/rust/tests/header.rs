@@ -10,7 +10,7 @@ const HEADER: &str = include_str!("../../../include/skrapnefja.h");
 const FFI: &str = include_str!("../src/ffi.rs");
 
 /// The folder with the source of what the library exports.
-const SOURCES: &str = concat!(env!("CARGO_MANIFEST_DIR"), "/../../crates/skrapnefja/src");
+const SOURCES: &str = concat!(env!("CARGO_MANIFEST_DIR"), "/../../crates/skrapnefja_c/src");
 
 /// Each function with its parameters, as Rust declares them.
 type Functions = BTreeMap<String, Vec<String>>;
