@@ -11,7 +11,7 @@ SHELL := bash
 run: program
 	@cat samples/keys samples/log.c9r | target/bin/vault_check
 
-# The gate proper is `rt ci`: it also fails where an edit could not be tried.
+# `rt ci` passes with an edit that cannot be applied or read, `bad` on its line `rt: ok`; the gate does not.
 test:
 	@for folder in bindings/rust second; do
 		(cd "$$folder" && cargo fmt --check && cargo clippy --all-targets --offline -- -D warnings)

@@ -1,4 +1,4 @@
--- A table for the rounds of the inverse cipher, not in FIPS 197: of each byte b with s = inverseSbox b the word of the bytes 0e s, 09 s, 0d s and 0b s,
+-- A table for the rounds of the inverse cipher, not in FIPS 197: of each byte b with s = inverse_sbox b the word of the bytes 0e s, 09 s, 0d s and 0b s,
 -- which a byte b in the first row adds to its column under INVSUBBYTES and then INVMIXCOLUMNS. `proofs/InverseRoundTableRule.antt` shows it.
 -- Assumes nothing.
 use Rattle.std.specs.Prelude.{ℕ, List, [], ◌∷◌}

@@ -8,7 +8,7 @@ ghost use Rattle.aes_inverse.specs.InverseRoundTable.{inverse_round_table};
 
 use octets::word::{byte0, byte1, byte2, byte3};
 
-// Of each byte x with s = inverseSbox x the word of 0e s, 09 s, 0d s and 0b s.
+// Of each byte x with s = inverse_sbox x the word of 0e s, 09 s, 0d s and 0b s.
 const INVERSE_ROUND_TABLE: [u32; 256] = [
     0x51f4a750, 0x7e416553, 0x1a17a4c3, 0x3a275e96, 0x3bab6bcb, 0x1f9d45f1, 0xacfa58ab, 0x4be30393,
     0x2030fa55, 0xad766df6, 0x88cc7691, 0xf5024c25, 0x4fe5d7fc, 0xc52acbd7, 0x26354480, 0xb562a38f,

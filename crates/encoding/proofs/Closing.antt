@@ -43,7 +43,7 @@ closed x (a ∷ b ∷ c ∷ []) k = eq-eqb (value c % 4) 0 (k.three refl)
 closed x (a ∷ b ∷ c ∷ d ∷ w) k =
     closed d w (record { one = λ e. k.one (omega arith); two = λ e. k.two (omega arith); three = λ e. k.three (omega arith) })
 
--- ---- the fewestBytes bytes
+-- ---- the fewest_bytes bytes
 
 module _ (n v : ℕ) where
   pub fewest_none : n % 4 ≡ 0 → fewest_bytes n v ≡ n / 4 * 3

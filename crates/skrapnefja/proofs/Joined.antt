@@ -33,7 +33,7 @@ pub joined-label : {o e : Outcome} {r : ℕ} (c t a : ℕ) {c' t' a' : ℕ} → 
 unfolding label_result_of
 joined-label c t a call h = rw (h.0, h.1, h.2, h.3) (ap (λ (x : Outcome). label_result_of x c t a) call)
 
--- The row of the bytes lent, which is lentRow b or lentNameRow b.
+-- The row of the bytes lent, which is lent_row b or lent_name_row b.
 module _ (b out : List ℕ) (call : Vault → End) {r row : ℕ} (l : ℕ) (e : r ≡ row) (f : r ≡ 0 → ⊥) where
   row_alone : ended (refused r) out ≡ lent_by row b call (λ row. ended (refused row) out)
   row_alone = lent-refused b call (λ row. ended (refused row) out) e f
