@@ -1,3 +1,4 @@
+pub mod Rotations
 pub mod Columns
 pub mod Schedule
 pub mod Ciphers

@@ -1,6 +1,6 @@
 -- The key expansion, word by word.
 -- Assumes nothing.
-use Prim.Native.Nat.{ℕ, zero, suc, ◌+◌, ◌-◌, ◌*◌, ◌/◌, ◌%◌, ◌<◌}
+use Prim.Native.Nat.{ℕ, zero, suc, ◌+◌, ◌-◌, ◌*◌, ◌/◌, ◌%◌, ◌<◌, ◌≤◌}
 use mathlib.Core.Path.{◌≡◌, refl, ◌∙◌, ap, ap₂}
 use mathlib.Core.List.{List, [], ◌∷◌, ◌++◌}
 use native.Mathlib.Omega.{arith}
@@ -49,17 +49,18 @@ length-expansion nk key (suc n) =
     let w = expansion nk key n in
     length-append w (bit_xor (get_or w n 0) (temp nk (nk + n) (get_or w (nk + n - 1) 0)) ∷ []) ∙ omega (arith, length-expansion nk key n)
 
--- One word more.
-pub expansion_more : (nk : ℕ) (key d l : List ℕ) (n v : ℕ) → 0 < nk → nk + n < length d → l ≡ expansion nk key n ++ drop (nk + n) d
-    → v ≡ bit_xor (get_or l n 0) (temp nk (nk + n) (get_or l (nk + n - 1) 0))
-    → set l (nk + n) v ≡ expansion nk key (n + 1) ++ drop (nk + (n + 1)) d
+-- The word i, where l has the words before it.
+pub expansion_more : (nk : ℕ) (key d l : List ℕ) (i v : ℕ) → 0 < nk → nk ≤ i → i < length d → l ≡ expansion nk key (i - nk) ++ drop i d
+    → v ≡ bit_xor (get_or l (i - nk) 0) (temp nk i (get_or l (i - 1) 0))
+    → set l i v ≡ expansion nk key (i + 1 - nk) ++ drop (i + 1) d
 unfolding expansion
-expansion_more nk key d l n v z h e f =
-    let w = expansion nk key n in
-    let m : length w ≡ nk + n = length-expansion nk key n in
-    let read : (i : ℕ) → i < nk + n → get_or l i 0 ≡ get_or w i 0 =
-    λ i k. ap (λ (x : List ℕ). get_or x i 0) e ∙ get_or-append w (drop (nk + n) d) 0 i (omega arith) in
-    let g : v ≡ bit_xor (get_or w n 0) (temp nk (nk + n) (get_or w (nk + n - 1) 0)) =
-    f ∙ ap₂ (λ (x y : ℕ). bit_xor x (temp nk (nk + n) y)) (read n (omega arith)) (read (nk + n - 1) (omega arith)) in
-    let a : nk + n + 1 ≡ nk + (n + 1) = omega arith in
-    ap (λ (x : List ℕ). set x (nk + n) v) e ∙ store_next w d (nk + n) v m h ∙ rw (a, g, add-one)
+expansion_more nk key d l i v z o h e f =
+    let w = expansion nk key (i - nk) in
+    let m : length w ≡ i = length-expansion nk key (i - nk) ∙ omega arith in
+    let read : (j : ℕ) → j < i → get_or l j 0 ≡ get_or w j 0 =
+    λ j k. ap (λ (x : List ℕ). get_or x j 0) e ∙ get_or-append w (drop i d) 0 j (omega arith) in
+    let g : v ≡ bit_xor (get_or w (i - nk) 0) (temp nk i (get_or w (i - 1) 0)) =
+    f ∙ ap₂ (λ (x y : ℕ). bit_xor x (temp nk i y)) (read (i - nk) (omega arith)) (read (i - 1) (omega arith)) in
+    let a : i + 1 - nk ≡ suc (i - nk) = omega arith in
+    let b : nk + (i - nk) ≡ i = omega arith in
+    ap (λ (x : List ℕ). set x i v) e ∙ store_next w d i v m h ∙ rw (a, b, g)

@@ -6,12 +6,11 @@ ghost use Rattle.octets.specs.Words.{HasBytes, b0, b1, b2, b3};
 ghost use Rattle.octets.specs.Xors.{xors};
 ghost use Rattle.aes_spec.specs.Field.{mul};
 ghost use Rattle.aes_spec.specs.SBox.{sbox};
-ghost use Rattle.aes_spec.specs.RoundTable.{round_table};
 ghost use Rattle.aes_spec.specs.Cipher.{xor4, add_round_key, mix_columns, shift_rows, sub_bytes, cipher};
 ghost use Rattle.aes.specs.Blocks.{state};
 
-use crate::rotate::{right8, right16, right24};
-use crate::round_table::{entry, sub};
+use crate::rotate::rotated_sum;
+use crate::round_table::RoundTable;
 use octets::word::{byte0, byte1, byte2, byte3, join, word_at};
 
 #[derive(Clone, Copy)]
@@ -23,35 +22,36 @@ pub struct Block {
 }
 
 // A column of a round, of the first byte of a, the second of b, the third of c and the fourth of d, and the key's word k.
-fn column(t: &[u32; 256], a: u32, b: u32, c: u32, d: u32, k: u32) -> u32
-    requires { t.now ≡ round_table }
+// Kept: `aes_inverse::block` has these two for its table; a trait of `RoundTable` and `InverseRoundTable` would carry the four rows of each as ghost members, and is longer than both.
+fn column(t: &RoundTable, a: u32, b: u32, c: u32, d: u32, k: u32) -> u32
     ensures { HasBytes result
         (bit_xor (xor4 (mul 2 (sbox (b0 a))) (mul 3 (sbox (b1 b))) (sbox (b2 c)) (sbox (b3 d))) (b0 k))
         (bit_xor (xor4 (sbox (b0 a)) (mul 2 (sbox (b1 b))) (mul 3 (sbox (b2 c))) (sbox (b3 d))) (b1 k))
         (bit_xor (xor4 (sbox (b0 a)) (sbox (b1 b)) (mul 2 (sbox (b2 c))) (mul 3 (sbox (b3 d)))) (b2 k))
         (bit_xor (xor4 (mul 3 (sbox (b0 a))) (sbox (b1 b)) (sbox (b2 c)) (mul 2 (sbox (b3 d)))) (b3 k)) }
 {
-    entry(t, byte0(a))
-        ^ right8(entry(t, byte1(b)))
-        ^ right16(entry(t, byte2(c)))
-        ^ right24(entry(t, byte3(d)))
-        ^ k
+    rotated_sum(
+        t.entry(byte0(a)),
+        t.entry(byte1(b)),
+        t.entry(byte2(c)),
+        t.entry(byte3(d)),
+    ) ^ k
 }
 
 // The same in the last round, which has no MixColumns.
-fn last_column(t: &[u32; 256], a: u32, b: u32, c: u32, d: u32, k: u32) -> u32
-    requires { t.now ≡ round_table }
+fn last_column(t: &RoundTable, a: u32, b: u32, c: u32, d: u32, k: u32) -> u32
     ensures { HasBytes result (bit_xor (sbox (b0 a)) (b0 k)) (bit_xor (sbox (b1 b)) (b1 k)) (bit_xor (sbox (b2 c)) (b2 k)) (bit_xor (sbox (b3 d)) (b3 k)) }
 {
     join(
-        sub(t, byte0(a)),
-        sub(t, byte1(b)),
-        sub(t, byte2(c)),
-        sub(t, byte3(d)),
+        t.sub(byte0(a)),
+        t.sub(byte1(b)),
+        t.sub(byte2(c)),
+        t.sub(byte3(d)),
     ) ^ k
 }
 
 // The exclusive or of two blocks.
+// Kept: its callers chain it with calls, where `^` is no plainer; `^` of `gcm::wide` adds words of 64 bits.
 pub fn add(x: Block, y: Block) -> Block
     ensures { state result ≡ xors (state x) (state y) }
 {
@@ -66,16 +66,18 @@ pub fn add(x: Block, y: Block) -> Block
 fn difference(x: u32, y: u32) -> u64
     ensures { (result ≡ bit_xor x y) × (result < 2 ^ 32) }
 {
-    (x ^ y) as u64
+    u64::from(x ^ y)
 }
 
 // A sum that is 0 where the two blocks are equal, and only there. The time does not depend on where they differ.
+// Kept: docs/DECISIONS.md names it: tags are compared with no early exit, which a derived `==` may have; so no number here stands for none.
 pub fn differences(x: Block, y: Block) -> u64
     ensures { (result < 2 ^ 34) × (eqb result 0 ≡ same (state x) (state y)) }
 {
     difference(x.a, y.a) + difference(x.b, y.b) + difference(x.c, y.c) + difference(x.d, y.d)
 }
 
+// Kept: no early exit, as `differences`.
 pub fn equal(x: Block, y: Block) -> bool
     ensures { result ≡ same (state x) (state y) }
 {
@@ -95,9 +97,9 @@ pub fn round_key(w: &[u32], n: usize) -> Block
     }
 }
 
-fn round(t: &[u32; 256], w: &[u32], n: usize, x: Block) -> Block
-    requires t_value { t.now ≡ round_table }
-    requires n_in_bounds { 4 * n + 4 ≤ length w.now }
+// Kept: `aes_inverse::block` takes the columns in the other order; edit `rows_shifted_the_other_way` of both tells them apart.
+fn round(t: &RoundTable, w: &[u32], n: usize, x: Block) -> Block
+    requires { 4 * n + 4 ≤ length w.now }
     ensures { state result ≡ add_round_key w.now n (mix_columns (shift_rows (sub_bytes (state x)))) }
 {
     let k = round_key(w, n);
@@ -109,9 +111,9 @@ fn round(t: &[u32; 256], w: &[u32], n: usize, x: Block) -> Block
     }
 }
 
-fn last_round(t: &[u32; 256], w: &[u32], n: usize, x: Block) -> Block
-    requires t_value { t.now ≡ round_table }
-    requires n_in_bounds { 4 * n + 4 ≤ length w.now }
+// Kept: `round` with the other column; a closure for the column would have to carry its four rows as a clause once more.
+fn last_round(t: &RoundTable, w: &[u32], n: usize, x: Block) -> Block
+    requires { 4 * n + 4 ≤ length w.now }
     ensures { state result ≡ add_round_key w.now n (shift_rows (sub_bytes (state x))) }
 {
     let k = round_key(w, n);
@@ -124,15 +126,13 @@ fn last_round(t: &[u32; 256], w: &[u32], n: usize, x: Block) -> Block
 }
 
 // The block enciphered under the key schedule w.
-pub fn encrypt(t: &[u32; 256], w: &[u32], x: Block) -> Block
-    requires t_value { t.now ≡ round_table }
-    requires in_bounds { 60 ≤ length w.now }
+// Kept: t and w apart, with the clause on w, here and below: `gcm::key::Key` holds them for what also hashes; a second struct, made at each call of siv, key_wrap and siv_ctrmac, is no plainer.
+pub fn encrypt(t: &RoundTable, w: &[u32], x: Block) -> Block
+    requires { 60 ≤ length w.now }
     ensures { state result ≡ cipher 14 w.now (state x) }
 {
     let mut s = add(x, round_key(w, 0));
-    let mut n: usize = 0;
-    while n < 13 {
-        n += 1;
+    for n in 1..14 {
         s = round(t, w, n, s);
     }
     last_round(t, w, 14, s)
@@ -151,6 +151,7 @@ pub fn block_at(s: &[u8], at: usize) -> Block
     }
 }
 
+// Kept: `From` for an array is no plainer: each caller would have to name the array's type.
 pub fn to_bytes(x: Block) -> [u8; 16]
     ensures { result ≡ state x }
 {

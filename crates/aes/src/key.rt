@@ -41,13 +41,11 @@ fn temp_word(s: &[u8; 256], i: usize, v: u32) -> u32
     requires le_i { (8 ≤ i) × (i < 64) }
     ensures { result ≡ temp 8 i v }
 {
-    if i % 8 == 0 {
-        return sub_word(s, rot_word(v)) ^ join(power_of_x(i / 8 - 1), 0, 0, 0);
+    match i % 8 {
+        0 => sub_word(s, rot_word(v)) ^ join(power_of_x(i / 8 - 1), 0, 0, 0),
+        4 => sub_word(s, v),
+        _ => v,
     }
-    if i % 8 == 4 {
-        return sub_word(s, v);
-    }
-    v
 }
 
 // The key itself: the first eight words.
@@ -55,10 +53,8 @@ fn key_words(key: &[u8], w: &mut [u32])
     requires { (length key.now ≡ 32) × (60 ≤ length w.old) }
     ensures { w.new ≡ words 8 key.now ++ drop 8 w.old }
 {
-    let mut i = 0;
-    while i < 8 {
+    for i in 0..8 {
         w[i] = word_at(key, 4 * i);
-        i += 1;
     }
 }
 
@@ -69,10 +65,7 @@ pub fn expand(key: &[u8], w: &mut [u32])
 {
     let s = table();
     key_words(key, w);
-    let mut n = 0;
-    while n < 52 {
-        let v = temp_word(&s, 8 + n, w[7 + n]);
-        w[8 + n] = w[n] ^ v;
-        n += 1;
+    for i in 8..60 {
+        w[i] = w[i - 8] ^ temp_word(&s, i, w[i - 1]);
     }
 }

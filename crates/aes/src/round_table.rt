@@ -44,24 +44,28 @@ const ROUND_TABLE: [u32; 256] = [
 ];
 
 // The table, to be lent to what follows: each call of a function that names a constant array copies it.
-pub fn table() -> [u32; 256]
-    ensures { result ≡ round_table }
-{
-    ROUND_TABLE
+#[derive(Clone, Copy)]
+pub struct RoundTable {
+    pub words: [u32; 256],
+    pub ghost standard: { words ≡ round_table },
 }
 
-// The word of a byte. Its S-box's entry is the rule's value.
-pub fn entry(t: &[u32; 256], x: u8) -> u32
-    requires { t.now ≡ round_table }
-    ensures { (HasBytes result (mul 2 (sbox x)) (sbox x) (sbox x) (mul 3 (sbox x))) × (sbox x ≡ sbox_rule x) }
-{
-    t[x as usize]
-}
+impl RoundTable {
+    pub fn new() -> RoundTable {
+        RoundTable { words: ROUND_TABLE }
+    }
 
-// The S-box's entry, for the last round: the rule's value.
-pub fn sub(t: &[u32; 256], x: u8) -> u8
-    requires { t.now ≡ round_table }
-    ensures { (result ≡ sbox x) × (result ≡ sbox_rule x) }
-{
-    byte1(entry(t, x))
+    // The word of a byte. Its S-box's entry is the rule's value.
+    pub fn entry(&self, x: u8) -> u32
+        ensures { (HasBytes result (mul 2 (sbox x)) (sbox x) (sbox x) (mul 3 (sbox x))) × (sbox x ≡ sbox_rule x) }
+    {
+        self.words[x as usize]
+    }
+
+    // The S-box's entry, for the last round: the rule's value.
+    pub fn sub(&self, x: u8) -> u8
+        ensures { (result ≡ sbox x) × (result ≡ sbox_rule x) }
+    {
+        byte1(self.entry(x))
+    }
 }

@@ -1,40 +1,14 @@
 -- A round of the inverse cipher with InvMixColumns before AddRoundKey: the round key went through it too.
 -- Assumes nothing.
-use Prim.Native.Nat.{ℕ, ◌+◌, ◌≤◌, ◌<◌}
-use mathlib.Core.Path.{◌≡◌, sym, ap, subst, ◌∙◌}
-use mathlib.Core.List.{List}
-use mathlib.Core.Logic.{⊎_elim}
-use native.Mathlib.Omega.{arith}
-use lib.ListN.{length, get_or, set}
-use lib.Seq.{get_or-set_same, get_or-set_other}
+use Prim.Native.Nat.{ℕ}
+use mathlib.Core.Path.{◌≡◌, sym, ap, ◌∙◌}
 use lib.Bits.{bit_xor}
 use Rattle.octets.specs.Words.{HasBytes, b0, b1, b2, b3}
-use Rattle.octets.proofs.Lists.{le_or_lt}
 use Rattle.octets.proofs.Words.{xor_bytes, self, renamed}
 use Rattle.aes_spec.specs.Field.{mul}
 use Rattle.aes_spec.specs.Cipher.{xor4}
-use Rattle.aes_inverse.specs.RoundKeys.{UnmixedBytes, Unmixed, UnmixedKeys}
+use Rattle.aes_inverse.specs.RoundKeys.{UnmixedBytes, Unmixed}
 use Rattle.aes_inverse.proofs.Columns.{pair, four, mul_sum}
-
--- ---- the round keys
-
-pub none_unmixed : (w v : List ℕ) → UnmixedKeys w v 4
-none_unmixed w v = record { at = λ i a b. absurd (omega arith) }
-
-pub one_unmixed : {w v : List ℕ} {n : ℕ} (x : ℕ) → UnmixedKeys w v n → n < length v → Unmixed x (get_or w n 0) → UnmixedKeys w (set v n x) (n + 1)
-one_unmixed {w} {v} {n} x k l e = record {
-  at = λ i a b.
-      ⊎_elim
-      (λ (h : n ≤ i).
-      let f : n ≡ i = omega arith in
-      subst (λ (j : ℕ). Unmixed (get_or (set v n x) j 0) (get_or w j 0)) f (subst (λ (y : ℕ). Unmixed y (get_or w n 0)) (sym (get_or-set_same v n x 0 l)) e))
-      (λ (h : i < n).
-      let d : i ≡ n → ⊥ = λ g. omega arith in
-      subst (λ (y : ℕ). Unmixed y (get_or w i 0)) (sym (get_or-set_other v n i x 0 d)) (k.at i a h))
-      (le_or_lt n i);
-}
-
--- ---- a column
 
 -- r is the column of a, b, c and d under InvMixColumns, and the word k added.
 abbrev pub Keyed : (r a b c d k : ℕ) → Type 0

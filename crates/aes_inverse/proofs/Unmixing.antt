@@ -6,10 +6,11 @@ use mathlib.Core.Bool.{Bool, ◌&&◌}
 use native.Mathlib.Omega.{arith}
 use lib.Dec.{T, eqb, eqb→eq}
 use lib.Bits.{bit_xor, xor_zero_r}
-use Rattle.octets.specs.Words.{HasBytes, b0, b1, b2, b3}
+use Rattle.octets.specs.Words.{HasBytes}
 use Rattle.octets.proofs.Tables.{all, all_at, and_left, and_right}
-use Rattle.octets.proofs.Words.{xor_bytes, renamed}
+use Rattle.octets.proofs.Words.{renamed}
 use Rattle.aes_spec.specs.Field.{xtimes, mul_bits, mul}
+use Rattle.aes.proofs.Columns.{RotatedSum, xor4_of}
 use Rattle.aes_inverse.specs.RoundKeys.{UnmixedBytes}
 
 pub times_x_low : (b : ℕ) → b < 128 → b * 2 ≡ xtimes b
@@ -72,11 +73,10 @@ multiples b h e =
 -- ---- a column under InvMixColumns
 
 -- A column of words of multiples, rotated.
-pub summed : {t0 t1 t2 t3 r1 r2 r3 : ℕ} (a b c d : ℕ) → Multiples t0 a → Multiples t1 b → Multiples t2 c → Multiples t3 d
-    → HasBytes r1 (b3 t1) (b0 t1) (b1 t1) (b2 t1) → HasBytes r2 (b2 t2) (b3 t2) (b0 t2) (b1 t2) → HasBytes r3 (b1 t3) (b2 t3) (b3 t3) (b0 t3)
-    → UnmixedBytes (bit_xor (bit_xor (bit_xor t0 r1) r2) r3) a b c d
-summed a b c d e0 e1 e2 e3 h1 h2 h3 =
-    xor_bytes
-    (xor_bytes (xor_bytes e0 (renamed h1 e1.at3 e1.at0 e1.at1 e1.at2))
-    (renamed h2 e2.at2 e2.at3 e2.at0 e2.at1))
-    (renamed h3 e3.at1 e3.at2 e3.at3 e3.at0)
+pub summed : {t0 t1 t2 t3 r : ℕ} (a b c d : ℕ) → Multiples t0 a → Multiples t1 b → Multiples t2 c → Multiples t3 d → RotatedSum r t0 t1 t2 t3 → UnmixedBytes r a b c d
+summed a b c d e0 e1 e2 e3 h =
+    renamed h
+    (xor4_of e0.at0 e1.at3 e2.at2 e3.at1)
+    (xor4_of e0.at1 e1.at0 e2.at3 e3.at2)
+    (xor4_of e0.at2 e1.at1 e2.at0 e3.at3)
+    (xor4_of e0.at3 e1.at2 e2.at1 e3.at0)

@@ -45,25 +45,31 @@ const INVERSE_ROUND_TABLE: [u32; 256] = [
 ];
 
 // The table, to be lent to what follows: each call of a function that names a constant array copies it.
-pub fn table() -> [u32; 256]
-    ensures { result ≡ inverse_round_table }
-{
-    INVERSE_ROUND_TABLE
+#[derive(Clone, Copy)]
+pub struct InverseRoundTable {
+    pub words: [u32; 256],
+    pub ghost standard: { words ≡ inverse_round_table },
 }
 
-// The word of a byte. The S-box takes the inverse S-box's entry back to the byte.
-pub fn entry(t: &[u32; 256], x: u8) -> u32
-    requires { t.now ≡ inverse_round_table }
-    ensures { (HasBytes result (mul 0x0e (inverse_sbox x)) (mul 0x09 (inverse_sbox x)) (mul 0x0d (inverse_sbox x)) (mul 0x0b (inverse_sbox x))) × (sbox (inverse_sbox x) ≡ x) }
-{
-    t[x as usize]
-}
+impl InverseRoundTable {
+    pub fn new() -> InverseRoundTable {
+        InverseRoundTable {
+            words: INVERSE_ROUND_TABLE,
+        }
+    }
 
-// The inverse S-box's entry, for the last round: 0e, 09, 0d and 0b add up to 1. The S-box takes it back to the byte.
-pub fn sub(t: &[u32; 256], x: u8) -> u8
-    requires { t.now ≡ inverse_round_table }
-    ensures { (result ≡ inverse_sbox x) × (sbox result ≡ x) }
-{
-    let e = entry(t, x);
-    byte0(e) ^ byte1(e) ^ byte2(e) ^ byte3(e)
+    // The word of a byte. The S-box takes the inverse S-box's entry back to the byte.
+    pub fn entry(&self, x: u8) -> u32
+        ensures { (HasBytes result (mul 0x0e (inverse_sbox x)) (mul 0x09 (inverse_sbox x)) (mul 0x0d (inverse_sbox x)) (mul 0x0b (inverse_sbox x))) × (sbox (inverse_sbox x) ≡ x) }
+    {
+        self.words[x as usize]
+    }
+
+    // The inverse S-box's entry, for the last round: 0e, 09, 0d and 0b add up to 1. The S-box takes it back to the byte.
+    pub fn sub(&self, x: u8) -> u8
+        ensures { (result ≡ inverse_sbox x) × (sbox result ≡ x) }
+    {
+        let e = self.entry(x);
+        byte0(e) ^ byte1(e) ^ byte2(e) ^ byte3(e)
+    }
 }

@@ -4,7 +4,7 @@ ghost use Rattle.octets.specs.Words.{HasBytes};
 ghost use Rattle.aes_spec.specs.Field.{xtimes, mul};
 ghost use Rattle.aes_inverse.specs.RoundKeys.{Unmixed, UnmixedKeys};
 
-use aes::rotate::{right8, right16, right24};
+use aes::rotate::rotated_sum;
 use octets::word::{byte0, byte1, byte2, byte3, join};
 
 // A byte times x.
@@ -12,9 +12,10 @@ fn times_x(b: u8) -> u8
     ensures { result ≡ xtimes b }
 {
     if b < 128 {
-        return b * 2;
+        b * 2
+    } else {
+        ((b - 128) * 2) ^ 0x1b
     }
-    ((b - 128) * 2) ^ 0x1b
 }
 
 // What a byte in the first row adds to its column: its multiples, sums of the byte times 1, x, x^2 and x^3.
@@ -30,10 +31,12 @@ fn multiples(b: u8) -> u32
 fn unmixed_column(w: u32) -> u32
     ensures { Unmixed result w }
 {
-    multiples(byte0(w))
-        ^ right8(multiples(byte1(w)))
-        ^ right16(multiples(byte2(w)))
-        ^ right24(multiples(byte3(w)))
+    rotated_sum(
+        multiples(byte0(w)),
+        multiples(byte1(w)),
+        multiples(byte2(w)),
+        multiples(byte3(w)),
+    )
 }
 
 // Writes the round keys 1 to 13 of the key schedule w, under InvMixColumns, to their places in v; nothing reads the others.
@@ -41,9 +44,7 @@ pub fn unmix_keys(w: &[u32], v: &mut [u32])
     requires { (60 ≤ length w.now) × (length v.old ≡ 60) }
     ensures { UnmixedKeys w.now v.new 56 }
 {
-    let mut i = 4;
-    while i < 56 {
+    for i in 4..56 {
         v[i] = unmixed_column(w[i]);
-        i += 1;
     }
 }

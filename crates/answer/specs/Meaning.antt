@@ -1,14 +1,11 @@
 -- What an answer of the code means: each refusal has its row.
 -- Assumes nothing.
-use Rattle.std.specs.Prelude.{ℕ, List, [], ◌∷◌, replicate}
+use Rattle.std.specs.Prelude.{ℕ, List, [], ◌∷◌, Result, Ok, Err}
 use Rattle.octets.specs.Rows.{Outcome, done, refused, refused_at}
 use Rattle.answer.specs.declared.Refusal.{Refusal}
 use Rattle.answer.specs.declared.Refusal.TheVariants.{KeyOrNonceSize, DirectoryId, Name, Length, Text, Range, Room, RepeatedNonce, Header, Chunk, HashName, SyntheticIv, Label, Segment, Alg, Signature, Format, Combo, Threshold, CheckValue}
-use Rattle.answer.specs.declared.Answer.{Answer}
-use Rattle.answer.specs.declared.Answer.TheVariants.{Done, Refused}
-use Rattle.answer.specs.declared.HeaderAnswer.{HeaderAnswer}
-use Rattle.answer.specs.declared.NameAnswer.{NameAnswer}
-use Rattle.answer.specs.declared.NameAnswer.TheVariants as name
+use Rattle.answer.specs.declared.StoredName.{StoredName}
+use Rattle.answer.specs.declared.StoredName.TheVariants.{Plain, Shortened}
 
 abbrev pub row : Refusal → Outcome
 row KeyOrNonceSize = refused 1
@@ -32,27 +29,18 @@ row Combo = refused 17
 row Threshold = refused 18
 row CheckValue = refused 20
 
-abbrev pub meaning : Answer → Outcome
-meaning (Done n) = done (n ∷ [])
-meaning (Refused r) = row r
+-- Of a call that answers a length.
+abbrev pub meaning : Result ℕ Refusal → Outcome
+meaning (Ok n) = done (n ∷ [])
+meaning (Err r) = row r
 
--- On success the length, and behind it the reserved bytes.
-abbrev pub with_reserved : Answer → List ℕ → Outcome
-with_reserved (Done n) bytes = done (n ∷ bytes)
-with_reserved (Refused r) bytes = row r
-
-abbrev pub header_meaning : HeaderAnswer → Outcome
-header_meaning r = with_reserved r.answer r.reserved
-
--- The reserved bytes that stand beside the answer of the header opener: those behind the length, and eight zeros beside a refusal.
-abbrev pub reserved_beside : Outcome → List ℕ
-reserved_beside (done []) = replicate 8 0
-reserved_beside (done (n ∷ bytes)) = bytes
-reserved_beside (refused x) = replicate 8 0
-reserved_beside (refused_at x i) = replicate 8 0
+-- Of the header opener, which answers the reserved bytes: on success the length of the content key, and behind it those bytes.
+abbrev pub header_meaning : Result (List ℕ) Refusal → Outcome
+header_meaning (Ok bytes) = done (32 ∷ bytes)
+header_meaning (Err r) = row r
 
 -- One length: the full name is stored; two: its hash name is.
-abbrev pub name_meaning : NameAnswer → Outcome
-name_meaning (name.Plain n) = done (n ∷ [])
-name_meaning (name.Shortened stored full) = done (stored ∷ full ∷ [])
-name_meaning (name.Refused r) = row r
+abbrev pub name_meaning : Result StoredName Refusal → Outcome
+name_meaning (Ok (Plain n)) = done (n ∷ [])
+name_meaning (Ok (Shortened stored full)) = done (stored ∷ full ∷ [])
+name_meaning (Err r) = row r

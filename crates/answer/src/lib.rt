@@ -31,30 +31,16 @@ pub enum Refusal {
     CheckValue,
 }
 
-/// Done, with the length written or asked for; or refused.
+/// What is stored for a name. `Plain`: the full name, with its length. `Shortened`: its hash name, with the lengths of the hash name and of the
+/// full name.
 #[derive(Clone, Copy)]
-pub enum Answer {
-    Done(usize),
-    Refused(Refusal),
-}
-
-/// What the header opener answers, and beside it the eight reserved bytes of the header; eight zeros beside a refusal.
-#[derive(Clone, Copy)]
-pub struct HeaderAnswer {
-    pub answer: Answer,
-    pub reserved: [u8; 8],
-}
-
-/// `Plain`: the full name is stored, with its length. `Shortened`: its hash name is stored, with the lengths of the hash name and of the
-/// full name. Or refused.
-#[derive(Clone, Copy)]
-pub enum NameAnswer {
+pub enum StoredName {
     Plain(usize),
     Shortened(usize, usize),
-    Refused(Refusal),
 }
 
 /// The number of a refusal's row.
+// Kept: the C interface answers rows by number.
 pub fn row_number(refusal: Refusal) -> u32
     ensures { result ≡ number (row refusal) }
 {

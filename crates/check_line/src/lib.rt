@@ -10,7 +10,7 @@ ghost use Rattle.answer.specs.Meaning.{meaning};
 ghost use Rattle.check_line.specs.Check.{check_vault, longest, checked, check};
 
 use crate::line::write_line;
-use answer::{Answer, Refusal};
+use answer::Refusal;
 use file_read::open_file;
 use vault::record::{Combo, make_vault};
 
@@ -18,14 +18,14 @@ use vault::record::{Combo, make_vault};
 const THRESHOLD: u32 = 220;
 
 // Opens the file behind its keys, in SIV_GCM, into room.
-fn check_vault(input: &[u8], room: &mut [u8]) -> Answer
+fn check_vault(input: &[u8], room: &mut [u8]) -> Result<usize, Refusal>
     ensures { ended (meaning result) room.new ≡ check_vault input.now room.old }
 {
     if input.len() < 64 {
-        return Answer::Refused(Refusal::KeyOrNonceSize);
+        return Err(Refusal::KeyOrNonceSize);
     }
     if input.len() > 65536 {
-        return Answer::Refused(Refusal::Length);
+        return Err(Refusal::Length);
     }
     let enc = &input[..32];
     let mac = &input[32..64];

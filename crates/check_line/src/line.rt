@@ -5,7 +5,7 @@ ghost use Rattle.answer.specs.Meaning.{row, meaning};
 ghost use Rattle.check_line.specs.Line.{decimal, opened_line, refused_line, refused_at_line, line_of};
 
 use crate::decimal::put_decimal;
-use answer::{Answer, Refusal, row_number};
+use answer::{Refusal, row_number};
 use frame::chunks;
 use octets::slice::copy_at;
 
@@ -19,6 +19,7 @@ fn put_field(text: &[u8], n: u64, line: &mut [u8], at: usize) -> usize
 }
 
 // Writes "opened n in k chunks", and returns the line's length.
+#[tactic(auto, using(crate::proofs::Pieces::length_three), unfolding(crate::specs::Line::opened_line))]
 fn write_opened(n: usize, k: usize, line: &mut [u8]) -> usize
     requires { length (opened_line n k) ≤ length line.old }
     ensures { (result ≡ length (opened_line n k)) × (line.new ≡ placed (opened_line n k) 0 line.old) }
@@ -30,6 +31,7 @@ fn write_opened(n: usize, k: usize, line: &mut [u8]) -> usize
 }
 
 // Writes "refused row", and returns the line's length.
+#[tactic(auto, using(crate::proofs::Pieces::length_three), unfolding(crate::specs::Line::refused_line))]
 fn write_refused(row: u64, line: &mut [u8]) -> usize
     requires { length (refused_line row) ≤ length line.old }
     ensures { (result ≡ length (refused_line row)) × (line.new ≡ placed (refused_line row) 0 line.old) }
@@ -40,6 +42,7 @@ fn write_refused(row: u64, line: &mut [u8]) -> usize
 }
 
 // Writes "refused row at i", and returns the line's length.
+#[tactic(auto, using(crate::proofs::Pieces::length_three), unfolding(crate::specs::Line::refused_at_line))]
 fn write_refused_at(row: u64, i: u64, line: &mut [u8]) -> usize
     requires { length (refused_at_line row i) ≤ length line.old }
     ensures { (result ≡ length (refused_at_line row i)) × (line.new ≡ placed (refused_at_line row i) 0 line.old) }
@@ -65,12 +68,12 @@ fn write_refusal(refusal: Refusal, line: &mut [u8]) -> usize
 }
 
 // Writes the line of an answer, and returns its length.
-pub fn write_line(answer: Answer, line: &mut [u8]) -> usize
+pub fn write_line(answer: Result<usize, Refusal>, line: &mut [u8]) -> usize
     requires { length (line_of (meaning answer)) ≤ length line.old }
     ensures { (result ≡ length (line_of (meaning answer))) × (line.new ≡ placed (line_of (meaning answer)) 0 line.old) }
 {
     match answer {
-        Answer::Done(n) => write_opened(n, chunks(n), line),
-        Answer::Refused(refusal) => write_refusal(refusal, line),
+        Ok(n) => write_opened(n, chunks(n), line),
+        Err(refusal) => write_refusal(refusal, line),
     }
 }

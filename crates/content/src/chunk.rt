@@ -1,94 +1,57 @@
 // The calls on a single chunk. They are lent the content key and the header's nonce, and not the header's reserved bytes: a chunk does not depend
 // on these, so the contracts hold for any. Nor does it depend on the encryption master key, and in SIV_GCM not on the MAC master key.
-ghost use Rattle.std.specs.Prelude.{◌≡◌, ◌&&◌, cond, List, ℕ, ◌+◌, ◌≤◌, leb, length};
+ghost use Rattle.std.specs.Prelude.{◌≡◌, ◌&&◌, cond, leb, List, ℕ, ◌+◌, ◌≤◌, length};
 ghost use Rattle.octets.specs.Rows.{ended};
 ghost use Rattle.aes_spec.specs.Cipher.{aes};
 ghost use Rattle.frame.specs.Frame.{head_with};
 ghost use Rattle.frame.specs.Single.{write_chunk, open_chunk};
 ghost use Rattle.answer.specs.Meaning.{meaning};
-ghost use Rattle.vault.specs.Vault.{sizes_of, codec_with, codec_of};
+ghost use Rattle.vault.specs.Vault.{sizes_of, codec_of};
 ghost use Rattle.vault.specs.Under.{sealed_under, good_under, opened_under};
 
-use aes::round_table::table;
-use answer::{Answer, Refusal};
-use gcm::key::prepare;
-use vault::chunk::{good_chunk, open_part, seal_chunk};
-use vault::record::{Combo, Vault};
+use aes::round_table::RoundTable;
+use answer::Refusal;
+use gcm::key::Key;
+use vault::chunk::{FileKeys, key_tables, open_part};
+use vault::record::Vault;
 use vault::sizes::{head_right, sizes_of};
 
 // Is n at least `low` and at most `high`?
+// Kept: the contract of `(low..=high).contains(&n)` speaks of an order's answers and a flag of the range, and the proofs of the rows get longer.
 fn within(low: usize, n: usize, high: usize) -> bool
     ensures { result ≡ (leb low n && leb n high) }
 {
-    if n < low {
-        return false;
-    }
-    n <= high
+    low <= n && n <= high
 }
 
 // Writes a chunk under the content key to out, which has just its length.
 fn seal_under(
-    combo: Combo,
+    v: &Vault,
     key: &[u8],
-    mac: &[u8],
     header_nonce: &[u8],
     number: u64,
     nonce: &[u8],
     cleartext: &[u8],
     out: &mut [u8],
 )
-    requires key_len { (length key.now ≡ 32) × (length header_nonce.now ≡ (sizes_of combo).nonce) × (length nonce.now ≡ (sizes_of combo).nonce) }
-    requires cleartext_len_bound { (length cleartext.now ≤ 32768) × (length out.old ≡ length cleartext.now + (sizes_of combo).overhead) }
-    ensures { out.new ≡ sealed_under combo (aes 8 key.now) mac.now header_nonce.now number nonce.now cleartext.now }
+    requires key_len { (length key.now ≡ 32) × (length header_nonce.now ≡ (sizes_of v.now.combo).nonce) × (length nonce.now ≡ (sizes_of v.now.combo).nonce) }
+    requires cleartext_len_bound { (length cleartext.now ≤ 32768) × (length out.old ≡ length cleartext.now + (sizes_of v.now.combo).overhead) }
+    ensures { out.new ≡ sealed_under v.now.combo (aes 8 key.now) v.now.mac header_nonce.now number nonce.now cleartext.now }
 {
-    let t = table();
-    let mut w = [0u32; 60];
-    let mut m = [0u64; 32];
-    prepare(&t, key, &mut w, &mut m);
-    seal_chunk(
-        combo,
-        &t,
-        &w,
-        &m,
-        mac,
+    let t = RoundTable::new();
+    let (w, m) = key_tables(&t, key);
+    let content = Key {
+        t: &t,
+        w: &w,
+        m: &m,
+    };
+    let keys = FileKeys {
+        combo: v.combo,
+        content,
+        mac: &v.mac,
         header_nonce,
-        number,
-        nonce,
-        cleartext,
-        out,
-    );
-}
-
-// Writes a chunk by the combo.
-fn write_by(
-    combo: Combo,
-    mac: &[u8],
-    key: &[u8],
-    header_nonce: &[u8],
-    number: u64,
-    nonce: &[u8],
-    cleartext: &[u8],
-    out: &mut [u8],
-) -> Answer
-    ensures { (enc reserved : List ℕ) → ended (meaning result) out.new ≡ write_chunk (codec_with combo enc mac.now) (head_with header_nonce.now reserved key.now) number nonce.now cleartext.now out.old }
-{
-    let z = sizes_of(combo);
-    if !head_right(combo, header_nonce, key) {
-        return Answer::Refused(Refusal::KeyOrNonceSize);
-    }
-    if nonce.len() != z.nonce {
-        return Answer::Refused(Refusal::KeyOrNonceSize);
-    }
-    if !within(1, cleartext.len(), 32768) {
-        return Answer::Refused(Refusal::Length);
-    }
-    let n = cleartext.len() + z.overhead;
-    if out.len() < n {
-        return Answer::Refused(Refusal::Room);
-    }
-    let to = &mut out[..n];
-    seal_under(combo, key, mac, header_nonce, number, nonce, cleartext, to);
-    Answer::Done(n)
+    };
+    keys.seal(number, nonce, cleartext, out);
 }
 
 /// Writes the chunk of a number, a nonce and a cleartext of 1 to 32,768 bytes: 28 bytes more in SIV_GCM, 48 in SIV_CTRMAC. Rows 1, 4, 7.
@@ -100,77 +63,61 @@ pub fn write_chunk(
     nonce: &[u8],
     cleartext: &[u8],
     out: &mut [u8],
-) -> Answer
+) -> Result<usize, Refusal>
     ensures { (reserved : List ℕ) → ended (meaning result) out.new ≡ write_chunk (codec_of v) (head_with header_nonce.now reserved key.now) number nonce.now cleartext.now out.old }
 {
-    let combo = v.combo;
-    let mac = v.mac;
-    write_by(
-        combo,
-        &mac,
-        key,
-        header_nonce,
-        number,
-        nonce,
-        cleartext,
-        out,
-    )
+    let z = sizes_of(v.combo);
+    if !head_right(v.combo, header_nonce, key) {
+        return Err(Refusal::KeyOrNonceSize);
+    }
+    if nonce.len() != z.nonce {
+        return Err(Refusal::KeyOrNonceSize);
+    }
+    if !within(1, cleartext.len(), 32768) {
+        return Err(Refusal::Length);
+    }
+    let n = cleartext.len() + z.overhead;
+    if out.len() < n {
+        return Err(Refusal::Room);
+    }
+    let to = &mut out[..n];
+    seal_under(&v, key, header_nonce, number, nonce, cleartext, to);
+    Ok(n)
 }
 
 // Writes the cleartext of a good chunk to out, which has just its length. Of a chunk that is not good nothing is written.
+// Kept: the answer is the flag alone; the clause `out_after` says what `out` holds where it is false too.
 fn open_under(
-    combo: Combo,
+    v: &Vault,
     key: &[u8],
-    mac: &[u8],
     header_nonce: &[u8],
     number: u64,
     chunk: &[u8],
     out: &mut [u8],
 ) -> bool
-    requires key_len { (length key.now ≡ 32) × (length header_nonce.now ≡ (sizes_of combo).nonce) }
-    requires out_len_bound { (length out.old ≤ 32768) × (length chunk.now ≡ length out.old + (sizes_of combo).overhead) }
-    ensures value { result ≡ good_under combo (aes 8 key.now) mac.now header_nonce.now number chunk.now }
-    ensures out_after { out.new ≡ cond result (opened_under combo (aes 8 key.now) chunk.now) out.old }
+    requires key_len { (length key.now ≡ 32) × (length header_nonce.now ≡ (sizes_of v.now.combo).nonce) }
+    requires out_len_bound { (length out.old ≤ 32768) × (length chunk.now ≡ length out.old + (sizes_of v.now.combo).overhead) }
+    ensures value { result ≡ good_under v.now.combo (aes 8 key.now) v.now.mac header_nonce.now number chunk.now }
+    ensures out_after { out.new ≡ cond result (opened_under v.now.combo (aes 8 key.now) chunk.now) out.old }
 {
-    let t = table();
-    let mut w = [0u32; 60];
-    let mut m = [0u64; 32];
-    prepare(&t, key, &mut w, &mut m);
-    if !good_chunk(combo, &t, &w, &m, mac, header_nonce, number, chunk) {
+    let t = RoundTable::new();
+    let (w, m) = key_tables(&t, key);
+    let content = Key {
+        t: &t,
+        w: &w,
+        m: &m,
+    };
+    let keys = FileKeys {
+        combo: v.combo,
+        content,
+        mac: &v.mac,
+        header_nonce,
+    };
+    if !keys.good(number, chunk) {
         return false;
     }
-    open_part(combo, &t, &w, chunk, 0, out);
+    open_part(v.combo, &t, &w, chunk, 0, out);
     true
-}
-
-// Opens a chunk by the combo.
-fn open_by(
-    combo: Combo,
-    mac: &[u8],
-    key: &[u8],
-    header_nonce: &[u8],
-    number: u64,
-    chunk: &[u8],
-    out: &mut [u8],
-) -> Answer
-    ensures { (enc reserved : List ℕ) → ended (meaning result) out.new ≡ open_chunk (codec_with combo enc mac.now) (head_with header_nonce.now reserved key.now) number chunk.now out.old }
-{
-    let z = sizes_of(combo);
-    if !head_right(combo, header_nonce, key) {
-        return Answer::Refused(Refusal::KeyOrNonceSize);
-    }
-    if !within(z.overhead + 1, chunk.len(), 32768 + z.overhead) {
-        return Answer::Refused(Refusal::Length);
-    }
-    let n = chunk.len() - z.overhead;
-    if out.len() < n {
-        return Answer::Refused(Refusal::Room);
-    }
-    let to = &mut out[..n];
-    if !open_under(combo, key, mac, header_nonce, number, chunk, to) {
-        return Answer::Refused(Refusal::Chunk(number));
-    }
-    Answer::Done(n)
 }
 
 /// Opens a chunk under its number: writes its cleartext. Rows 1, 4, 7, 10 with that number.
@@ -181,10 +128,22 @@ pub fn open_chunk(
     number: u64,
     chunk: &[u8],
     out: &mut [u8],
-) -> Answer
+) -> Result<usize, Refusal>
     ensures { (reserved : List ℕ) → ended (meaning result) out.new ≡ open_chunk (codec_of v) (head_with header_nonce.now reserved key.now) number chunk.now out.old }
 {
-    let combo = v.combo;
-    let mac = v.mac;
-    open_by(combo, &mac, key, header_nonce, number, chunk, out)
+    let z = sizes_of(v.combo);
+    if !head_right(v.combo, header_nonce, key) {
+        return Err(Refusal::KeyOrNonceSize);
+    }
+    if !within(z.overhead + 1, chunk.len(), 32768 + z.overhead) {
+        return Err(Refusal::Length);
+    }
+    let n = chunk.len() - z.overhead;
+    if out.len() < n {
+        return Err(Refusal::Room);
+    }
+    if !open_under(&v, key, header_nonce, number, chunk, &mut out[..n]) {
+        return Err(Refusal::Chunk(number));
+    }
+    Ok(n)
 }

@@ -1,19 +1,28 @@
 // Counter mode in place: the text becomes what it is enciphered or deciphered to.
-ghost use Rattle.std.specs.Prelude.{◌≡◌, ◌+◌, ◌≤◌, length, drop};
+ghost use Rattle.std.specs.Prelude.{◌≡◌, ◌+◌, ◌^◌, ◌<◌, ◌≤◌, List, ℕ, length, take, drop};
 ghost use Rattle.octets.specs.Xors.{xors};
-ghost use Rattle.aes_spec.specs.RoundTable.{round_table};
 ghost use Rattle.aes_spec.specs.Cipher.{cipher};
 ghost use Rattle.aes.specs.Blocks.{state};
 ghost use Rattle.ctr.specs.Ctr as spec;
 
-use crate::counter::counter_at;
-use crate::{in_block, part};
-use aes::block::{Block, encrypt};
+use crate::counter::Counter;
+use aes::block::{Block, encrypt, to_bytes};
+use aes::round_table::RoundTable;
+use octets::slice::xor_into;
 use octets::word::{put_word, word_at};
 
-// Enciphers the counter block c and adds it to a whole block. The words are read and written in the order of `crate::whole`.
-fn whole(t: &[u32; 256], w: &[u32], c: Block, text: &mut [u8])
-    requires t_value { t.now ≡ round_table }
+// How many of the bytes that are left lie in the same block as its byte r.
+fn in_block(r: usize, left: usize) -> usize
+    requires { (r < 16) × (0 < left) }
+    ensures { (0 < result) × (result ≤ left) × (r + result ≤ 16) }
+{
+    left.min(16 - r)
+}
+
+// Enciphers the counter block c and adds it to a whole block. The first word is read before, so that it is there when it is
+// wanted, and each word is written as soon as it is made: the compiler then stores words, and not bytes.
+// Kept: the clause on w, here and below: see `aes::block::encrypt`.
+fn whole(t: &RoundTable, w: &[u32], c: Block, text: &mut [u8])
     requires in_bounds { (60 ≤ length w.now) × (length text.old ≡ 16) }
     ensures { text.new ≡ xors text.old (cipher 14 w.now (state c)) }
 {
@@ -25,9 +34,17 @@ fn whole(t: &[u32; 256], w: &[u32], c: Block, text: &mut [u8])
     put_word(word_at(text, 12) ^ k.d, text, 12);
 }
 
-// The same of a block or a part of one, whose first byte is the block's byte r.
-fn apply(t: &[u32; 256], w: &[u32], c: Block, r: usize, text: &mut [u8])
-    requires t_value { t.now ≡ round_table }
+// Enciphers the counter block c and adds it to a part of a block, whose first byte is the block's byte r.
+fn part(t: &RoundTable, w: &[u32], c: Block, r: usize, text: &mut [u8])
+    requires in_bounds { (60 ≤ length w.now) × (r + length text.old ≤ 16) }
+    ensures { text.new ≡ xors text.old (drop r (cipher 14 w.now (state c))) }
+{
+    let bytes = to_bytes(encrypt(t, w, c));
+    xor_into(&bytes[r..], text);
+}
+
+// The same of a block or a part of one.
+fn apply(t: &RoundTable, w: &[u32], c: Block, r: usize, text: &mut [u8])
     requires in_bounds { (60 ≤ length w.now) × (r + length text.old ≤ 16) }
     ensures { text.new ≡ xors text.old (drop r (cipher 14 w.now (state c))) }
 {
@@ -38,35 +55,34 @@ fn apply(t: &[u32; 256], w: &[u32], c: Block, r: usize, text: &mut [u8])
     }
 }
 
-// Adds the key stream to the text. The first counter block is that of its first byte; `wide` tells whether all of it counts.
-fn crypt_by(t: &[u32; 256], w: &[u32], wide: bool, first: Block, text: &mut [u8])
-    requires t_value { t.now ≡ round_table }
-    requires in_bounds { 60 ≤ length w.now }
-    ensures { text.new ≡ spec.ctr (spec.inc_of wide) (cipher 14 w.now) (state first) text.old }
+// The part of any text src from its byte lo on becomes that of the text that src becomes. The first counter block is that of
+// the first byte of src.
+pub(crate) fn crypt_part<C: Counter>(
+    t: &RoundTable,
+    w: &[u32],
+    first: Block,
+    lo: usize,
+    text: &mut [u8],
+)
+    requires in_bounds { (60 ≤ length w.now) × (lo + length text.old < 2 ^ 64) }
+    ensures { (src : List ℕ) → lo + length text.old ≤ length src → text.old ≡ take (length text.old) (drop lo src)
+        → text.new ≡ take (length text.old) (drop lo (spec.ctr C.inc (cipher 14 w.now) (state first) src)) }
 {
     let mut j = 0;
+    // Kept: a step is what is left of a block, and the first and the last one may be shorter than 16.
     while j < text.len() {
-        let e = j + in_block(j % 16, text.len() - j);
-        let c = counter_at(wide, first, j / 16);
-        apply(t, w, c, j % 16, &mut text[j..e]);
+        let p = lo + j;
+        let e = j + in_block(p % 16, text.len() - j);
+        let c = C::after(first, p / 16);
+        apply(t, w, c, p % 16, &mut text[j..e]);
         j = e;
     }
 }
 
-// The first counter block is that of the first byte of the text. With a counter of 32 bits.
-pub fn crypt_in_place(t: &[u32; 256], w: &[u32], first: Block, text: &mut [u8])
-    requires t_value { t.now ≡ round_table }
+// The first counter block is that of the first byte of the text.
+pub fn crypt_in_place<C: Counter>(t: &RoundTable, w: &[u32], first: Block, text: &mut [u8])
     requires in_bounds { 60 ≤ length w.now }
-    ensures { text.new ≡ spec.ctr spec.inc32 (cipher 14 w.now) (state first) text.old }
+    ensures { text.new ≡ spec.ctr C.inc (cipher 14 w.now) (state first) text.old }
 {
-    crypt_by(t, w, false, first, text);
-}
-
-// The same with a counter of 128 bits.
-pub fn crypt128_in_place(t: &[u32; 256], w: &[u32], first: Block, text: &mut [u8])
-    requires t_value { t.now ≡ round_table }
-    requires in_bounds { 60 ≤ length w.now }
-    ensures { text.new ≡ spec.ctr spec.inc128 (cipher 14 w.now) (state first) text.old }
-{
-    crypt_by(t, w, true, first, text);
+    crypt_part::<C>(t, w, first, 0, text);
 }

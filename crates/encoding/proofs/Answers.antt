@@ -10,20 +10,21 @@ use lib.ListN.{length, take, drop, get_or, length-map}
 use Rattle.octets.proofs.Lists.{map-drop, list_tab}
 use Rattle.encoding.specs.Base64url.{canonical, value, known, pad_length, body, whole, accepted, decoded}
 use Rattle.encoding.specs.Broken.{broken_at}
-use Rattle.encoding.specs.Measures.{answer, measure_of}
-use Rattle.encoding.specs.declared.base64url.Measure.TheVariants.{Accepted, Refused}
+use Rattle.encoding.specs.Measures.{answer, measure_of, broken}
+use Rattle.std.proofs.Common.{Ok, Err}
+use Rattle.encoding.specs.declared.base64url.BrokenAt.{BrokenAt}
 use Rattle.encoding.proofs.Sextets.{canonical-drop}
 use Rattle.encoding.proofs.Characters.{known_all}
 use Rattle.encoding.proofs.Padding.{bare_body}
 
 -- A text that the check refuses is not accepted, and broken at that place.
-pub refused-text : (p : Bool) (t : List ℕ) (q : ℕ) → measure_of p t ≡ Refused q → (accepted p t ≡ false) × (q ≡ broken_at p t)
+pub refused-text : (p : Bool) (t : List ℕ) (q : ℕ) → measure_of p t ≡ Err (broken q) → (accepted p t ≡ false) × (q ≡ broken_at p t)
 unfolding measure_of
 refused-text p t q e = go (accepted p t) e
   where
-    go : (b : Bool) → answer b (length (decoded p t)) (broken_at p t) ≡ Refused q → (b ≡ false) × (q ≡ broken_at p t)
+    go : (b : Bool) → answer b (length (decoded p t)) (broken_at p t) ≡ Err (broken q) → (b ≡ false) × (q ≡ broken_at p t)
     go true e = let z : ◌≡◌ {A = ℕ} 0 1 = cc in absurd (omega arith)
-    go false e = (refl, cc)
+    go false e = let z : broken (broken_at p t) ≡ broken q = cc in (refl, sym (ap (λ (b : BrokenAt). b.0) z))
 
 -- ---- a text without padding
 
@@ -60,11 +61,11 @@ module _ (t : List ℕ) where
 
 -- ---- any text
 
-pub refused : (p : Bool) (t : List ℕ) → accepted p t ≡ false → Refused (broken_at p t) ≡ measure_of p t
+pub refused : (p : Bool) (t : List ℕ) → accepted p t ≡ false → Err (broken (broken_at p t)) ≡ measure_of p t
 unfolding measure_of
 refused p t e = rw e
 
-pub measured : (p : Bool) (t : List ℕ) → accepted p t ≡ true → Accepted (length (decoded p t)) ≡ measure_of p t
+pub measured : (p : Bool) (t : List ℕ) → accepted p t ≡ true → Ok (length (decoded p t)) ≡ measure_of p t
 unfolding measure_of
 measured p t e = rw e
 

@@ -11,7 +11,7 @@ use Rattle.octets.proofs.Equality.{and_true}
 use Rattle.encoding.specs.Base64url.{sextets, canonical, letter, value, known, pad, pad_length, body, whole, encode, accepted, decoded, encoded_length}
 use Rattle.encoding.specs.Broken.{broken_at}
 use Rattle.encoding.specs.Measures.{answer, measure_of}
-use Rattle.encoding.specs.declared.base64url.Measure.TheVariants.{Accepted}
+use Rattle.std.proofs.Common.{Ok}
 use Rattle.encoding.specs.Statements.{EncodedDecodes, DecodedWasEncoded, EncodedLength, DecodedLength, AcceptedIsMeasured, MeasuredIsAccepted}
 use Rattle.encoding.proofs.Sextets.{octets-sextets, canonical-sextets, sextets_below, sextets-octets, octets_below, not_one, length-sextets, length-octets}
 use Rattle.encoding.proofs.Characters.{values-letters, known-letters, letters-values, values_below}
@@ -60,6 +60,6 @@ pub measured_is_accepted : MeasuredIsAccepted
 unfolding measure_of
 measured_is_accepted p t n h = go (accepted p t) refl h
   where
-    go : (b : Bool) → accepted p t ≡ b → answer b (length (decoded p t)) (broken_at p t) ≡ Accepted n → (accepted p t ≡ true) × (length (decoded p t) ≡ n)
+    go : (b : Bool) → accepted p t ≡ b → answer b (length (decoded p t)) (broken_at p t) ≡ Ok n → (accepted p t ≡ true) × (length (decoded p t) ≡ n)
     go true e h = (e, cc)
     go false e h = (cc, cc)

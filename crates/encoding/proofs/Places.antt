@@ -14,8 +14,9 @@ use Rattle.octets.proofs.Equality.{iff, and_true, true_and, true_false}
 use Rattle.encoding.specs.Base64url.{accepted, decoded}
 use Rattle.encoding.specs.Places.{Begins, Place}
 use Rattle.encoding.specs.Broken.{within, any_number, broken_at}
-use Rattle.encoding.specs.Measures.{answer, measure_of}
-use Rattle.encoding.specs.declared.base64url.Measure.TheVariants.{Refused}
+use Rattle.encoding.specs.Measures.{answer, measure_of, broken}
+use Rattle.std.proofs.Common.{Err}
+use Rattle.encoding.specs.declared.base64url.BrokenAt.{BrokenAt}
 use Rattle.encoding.specs.Statements.{Encoded, OnePlace, StopsAtPlace, RefusedAtPlace}
 use Rattle.encoding.proofs.Laws.{encoded_decodes, decoded_was_encoded}
 use Rattle.encoding.proofs.Walk.{walk_stops}
@@ -87,10 +88,10 @@ pub refused-at-place : RefusedAtPlace
 unfolding measure_of
 refused-at-place p t q = (there (accepted p t) refl, back (accepted p t) refl)
   where
-    there : (b : Bool) → accepted p t ≡ b → answer b (length (decoded p t)) (broken_at p t) ≡ Refused q → Place (Encoded p) t q
+    there : (b : Bool) → accepted p t ≡ b → answer b (length (decoded p t)) (broken_at p t) ≡ Err (broken q) → Place (Encoded p) t q
     there true e h = let z : ◌≡◌ {A = ℕ} 0 1 = cc in absurd (omega arith)
-    there false e h = let z : broken_at p t ≡ q = cc in subst (Place (Encoded p) t) z (broken-place p t e)
+    there false e h = let z : broken (broken_at p t) ≡ broken q = cc in subst (Place (Encoded p) t) (ap (λ (b : BrokenAt). b.0) z) (broken-place p t e)
 
-    back : (b : Bool) → accepted p t ≡ b → Place (Encoded p) t q → answer b (length (decoded p t)) (broken_at p t) ≡ Refused q
+    back : (b : Bool) → accepted p t ≡ b → Place (Encoded p) t q → answer b (length (decoded p t)) (broken_at p t) ≡ Err (broken q)
     back true e a = absurd (a.broken ((encoded_exactly p t).0 e))
-    back false e a = ap Refused (one_place (Encoded p) t (broken_at p t) q (broken-place p t e) a)
+    back false e a = ap (answer false 0) (one_place (Encoded p) t (broken_at p t) q (broken-place p t e) a)

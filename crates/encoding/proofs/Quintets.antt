@@ -4,8 +4,8 @@ use Prim.Native.Nat.{ℕ, ◌+◌, ◌-◌, ◌*◌, ◌/◌, ◌%◌}
 use mathlib.Core.Path.{◌≡◌, refl, ap, ◌∙◌}
 use mathlib.Core.List.{List, [], ◌∷◌, ◌++◌, map, map-append}
 use native.Mathlib.Omega.{arith}
-use lib.ListN.{length, length-map}
-use Rattle.encoding.specs.Base32.{quintets, letter, encode}
+use lib.ListN.{length, get_or, length-map}
+use Rattle.encoding.specs.Base32.{quintets, alphabet, letter, encode}
 use Rattle.encoding.specs.Statements.{Base32Length}
 
 length-quintets : (b : List ℕ) → length (quintets b) ≡ length b / 5 * 8
@@ -37,8 +37,9 @@ pub encode-append : (x y : List ℕ) (n : ℕ) → length x ≡ 5 * n → encode
 unfolding encode
 encode-append x y n h = ap (map letter) (quintets-append x y n h) ∙ map-append letter (quintets x) (quintets y)
 
-pub five_bytes : (a b c d e : ℕ) {p q r s t u v w : ℕ} → p ≡ letter (a / 8) → q ≡ letter (a % 8 * 4 + b / 64) → r ≡ letter (b / 2 % 32) → s ≡ letter (b % 2 * 16 + c / 16)
-    → t ≡ letter (c % 16 * 2 + d / 128) → u ≡ letter (d / 4 % 32) → v ≡ letter (d % 4 * 8 + e / 32) → w ≡ letter (e % 32)
+-- Letters of the table z.
+pub five_bytes : (z : List ℕ) → z ≡ alphabet → (a b c d e : ℕ) {p q r s t u v w : ℕ} → p ≡ get_or z (a / 8) 0 → q ≡ get_or z (a % 8 * 4 + b / 64) 0 → r ≡ get_or z (b / 2 % 32) 0 → s ≡ get_or z (b % 2 * 16 + c / 16) 0
+    → t ≡ get_or z (c % 16 * 2 + d / 128) 0 → u ≡ get_or z (d / 4 % 32) 0 → v ≡ get_or z (d % 4 * 8 + e / 32) 0 → w ≡ get_or z (e % 32) 0
     → p ∷ q ∷ r ∷ s ∷ t ∷ u ∷ v ∷ w ∷ [] ≡ encode (a ∷ b ∷ c ∷ d ∷ e ∷ [])
-unfolding encode quintets
-five_bytes a b c d e f g h i j k l m = rw (f, g, h, i, j, k, l, m)
+unfolding encode quintets letter
+five_bytes z table a b c d e f g h i j k l m = rw (f, g, h, i, j, k, l, m, table)

@@ -7,7 +7,7 @@ use mathlib.Core.Bool.{Bool, true, false}
 use native.Mathlib.Omega.{arith}
 use lib.ListN.{length, take, get_or, length-map}
 use Rattle.octets.proofs.Lists.{take-tab, list_tab}
-use Rattle.encoding.specs.Base64url.{sextets, octets, letter, value, pad_character, pad, encode, encoded_length}
+use Rattle.encoding.specs.Base64url.{sextets, octets, alphabet, letter, value, pad_character, pad, encode, encoded_length}
 use Rattle.encoding.proofs.Sextets.{sextets-append, octets-append, length-sextets, length-octets}
 use Rattle.encoding.proofs.Padding.{pad-append}
 
@@ -23,29 +23,31 @@ encode-append p x y n h =
     ap (λ (l : List ℕ). pad p (map letter l)) (sextets-append x y n h) ∙ ap (pad p) (map-append letter (sextets x) (sextets y))
     ∙ pad-append p (map letter (sextets x)) (map letter (sextets y)) n (encode_groups x n h)
 
-module _ (a b c p q r s : ℕ) where
-  pub three_bytes : p ≡ letter (a / 4) → q ≡ letter (a % 4 * 16 + b / 16) → r ≡ letter (b % 16 * 4 + c / 64) → s ≡ letter (c % 64)
-      → p ∷ q ∷ r ∷ s ∷ [] ≡ encode false (a ∷ b ∷ c ∷ [])
-  unfolding encode pad sextets
-  three_bytes d e f g = rw (d, e, f, g)
+-- Letters of the table t.
+module _ (t : List ℕ) (table : t ≡ alphabet) where
+  module _ (a b c p q r s : ℕ) where
+    pub three_bytes : p ≡ get_or t (a / 4) 0 → q ≡ get_or t (a % 4 * 16 + b / 16) 0 → r ≡ get_or t (b % 16 * 4 + c / 64) 0 → s ≡ get_or t (c % 64) 0
+        → p ∷ q ∷ r ∷ s ∷ [] ≡ encode false (a ∷ b ∷ c ∷ [])
+    unfolding encode pad sextets letter
+    three_bytes d e f g = rw (d, e, f, g, table)
 
-module _ (a b p q r : ℕ) (d : p ≡ letter (a / 4)) (e : q ≡ letter (a % 4 * 16 + b / 16)) (f : r ≡ letter (b % 16 * 4)) where
-  pub two_bytes : p ∷ q ∷ r ∷ [] ≡ encode false (a ∷ b ∷ [])
-  unfolding encode pad sextets
-  two_bytes = rw (d, e, f)
+  module _ (a b p q r : ℕ) (d : p ≡ get_or t (a / 4) 0) (e : q ≡ get_or t (a % 4 * 16 + b / 16) 0) (f : r ≡ get_or t (b % 16 * 4) 0) where
+    pub two_bytes : p ∷ q ∷ r ∷ [] ≡ encode false (a ∷ b ∷ [])
+    unfolding encode pad sextets letter
+    two_bytes = rw (d, e, f, table)
 
-  pub two-bytes-padded : p ∷ q ∷ r ∷ pad_character ∷ [] ≡ encode true (a ∷ b ∷ [])
-  unfolding encode pad sextets
-  two-bytes-padded = rw (d, e, f)
+    pub two-bytes-padded : p ∷ q ∷ r ∷ pad_character ∷ [] ≡ encode true (a ∷ b ∷ [])
+    unfolding encode pad sextets letter
+    two-bytes-padded = rw (d, e, f, table)
 
-module _ (a p q : ℕ) (d : p ≡ letter (a / 4)) (e : q ≡ letter (a % 4 * 16)) where
-  pub one_byte : p ∷ q ∷ [] ≡ encode false (a ∷ [])
-  unfolding encode pad sextets
-  one_byte = rw (d, e)
+  module _ (a p q : ℕ) (d : p ≡ get_or t (a / 4) 0) (e : q ≡ get_or t (a % 4 * 16) 0) where
+    pub one_byte : p ∷ q ∷ [] ≡ encode false (a ∷ [])
+    unfolding encode pad sextets letter
+    one_byte = rw (d, e, table)
 
-  pub one_byte_padded : p ∷ q ∷ pad_character ∷ pad_character ∷ [] ≡ encode true (a ∷ [])
-  unfolding encode pad sextets
-  one_byte_padded = rw (d, e)
+    pub one_byte_padded : p ∷ q ∷ pad_character ∷ pad_character ∷ [] ≡ encode true (a ∷ [])
+    unfolding encode pad sextets letter
+    one_byte_padded = rw (d, e, table)
 
 -- ---- room for a text
 

@@ -1,13 +1,12 @@
 -- What the encodings promise. `proofs/Laws.antt` proves each under its name, `proofs/Places.antt` those of places, and `proofs/Quintets.antt` that of base32.
 -- Assumes nothing.
-use Rattle.std.specs.Prelude.{ℕ, ◌-◌, ◌*◌, ◌/◌, ◌≤◌, ◌≡◌, Bool, true, false, ◌↔◌, List, length}
+use Rattle.std.specs.Prelude.{ℕ, ◌-◌, ◌*◌, ◌/◌, ◌≤◌, ◌≡◌, Bool, true, false, ◌↔◌, List, length, Ok, Err}
 use Rattle.octets.specs.Bytes.{Bytes}
 use Rattle.encoding.specs.Base64url as base64url
 use Rattle.encoding.specs.Base32 as base32
-use Rattle.encoding.specs.Measures.{measure_of}
+use Rattle.encoding.specs.Measures.{measure_of, broken}
 use Rattle.encoding.specs.Places.{Place}
 use Rattle.encoding.specs.Broken.{within, stop}
-use Rattle.encoding.specs.declared.base64url.Measure.TheVariants.{Accepted, Refused}
 
 -- What was encoded is accepted, and decodes to what went in.
 abbrev pub EncodedDecodes : Type 0
@@ -26,10 +25,10 @@ DecodedLength = (p : Bool) (t : List ℕ) → length (base64url.decoded p t) ≡
 
 -- A text is measured exactly if it is accepted, and its measure is the length of what it decodes to.
 abbrev pub AcceptedIsMeasured : Type 0
-AcceptedIsMeasured = (p : Bool) (t : List ℕ) → base64url.accepted p t ≡ true → measure_of p t ≡ Accepted (length (base64url.decoded p t))
+AcceptedIsMeasured = (p : Bool) (t : List ℕ) → base64url.accepted p t ≡ true → measure_of p t ≡ Ok (length (base64url.decoded p t))
 
 abbrev pub MeasuredIsAccepted : Type 0
-MeasuredIsAccepted = (p : Bool) (t : List ℕ) (n : ℕ) → measure_of p t ≡ Accepted n → (base64url.accepted p t ≡ true) × (length (base64url.decoded p t) ≡ n)
+MeasuredIsAccepted = (p : Bool) (t : List ℕ) (n : ℕ) → measure_of p t ≡ Ok n → (base64url.accepted p t ≡ true) × (length (base64url.decoded p t) ≡ n)
 
 -- A well-formed text: that of some bytes.
 abbrev pub Encoded : Bool → List ℕ → Type 0
@@ -47,7 +46,7 @@ StopsAtPlace =
 
 -- With padding and without: the check refuses a text with the place q exactly when it is broken there.
 abbrev pub RefusedAtPlace : Type 0
-RefusedAtPlace = (p : Bool) (t : List ℕ) (q : ℕ) → (measure_of p t ≡ Refused q) ↔ Place (Encoded p) t q
+RefusedAtPlace = (p : Bool) (t : List ℕ) (q : ℕ) → (measure_of p t ≡ Err (broken q)) ↔ Place (Encoded p) t q
 
 -- Base32: eight characters for five bytes.
 abbrev pub Base32Length : Type 0

@@ -1,7 +1,7 @@
 // The tables of base64url. Each call of a function that names a constant array copies it: `letters` and `values` hand out a copy,
 // to be lent to what follows.
 ghost use Rattle.std.specs.Prelude.{◌≡◌, true, ◌<◌, length, get_or};
-ghost use Rattle.encoding.specs.Base64url.{alphabet, letter, value, known};
+ghost use Rattle.encoding.specs.Base64url.{alphabet, value, known};
 ghost use Rattle.encoding.specs.Leading.{Leading};
 ghost use Rattle.encoding.specs.ValueTable.{value_table};
 
@@ -26,36 +26,45 @@ const VALUES: [u8; 256] = [
     64, 64, 64, 64, 64, 64, 64, 64, 64, 64, 64, 64, 64, 64,
 ];
 
-pub fn letters() -> [u8; 64]
-    ensures { result ≡ alphabet }
-{
-    LETTERS
+// The letters of all values, in their order.
+#[derive(Clone, Copy)]
+pub struct LetterTable {
+    pub bytes: [u8; 64],
+    pub ghost standard: { bytes ≡ alphabet },
 }
 
-pub fn values() -> [u8; 256]
-    ensures { result ≡ value_table }
-{
-    VALUES
+// The values of all bytes.
+#[derive(Clone, Copy)]
+pub struct ValueTable {
+    pub bytes: [u8; 256],
+    pub ghost standard: { bytes ≡ value_table },
 }
 
-pub fn letter_of(t: &[u8; 64], v: u8) -> u8
-    requires t_value { t.now ≡ alphabet }
-    requires v_bound { v < 64 }
-    ensures { result ≡ letter v }
+pub fn letters() -> LetterTable {
+    LetterTable { bytes: LETTERS }
+}
+
+pub fn values() -> ValueTable {
+    ValueTable { bytes: VALUES }
+}
+
+// The letter of v in an alphabet of N letters: `letter v` in that of base64url, and in that of base32.
+pub fn letter_of<const N: usize>(t: &[u8; N], v: u8) -> u8
+    requires { v < N }
+    ensures { result ≡ get_or t.now v 0 }
 {
     t[v as usize]
 }
 
-pub fn value_of(t: &[u8; 256], c: u8) -> u8
-    requires { t.now ≡ value_table }
+// Kept: 64 for a character outside the alphabet: an Option would be made and taken apart at each character, in the loop that reads names.
+pub fn value_of(t: &ValueTable, c: u8) -> u8
     ensures { result ≡ value c }
 {
-    t[c as usize]
+    t.bytes[c as usize]
 }
 
 // The value of the character i of a text that has only characters of the alphabet.
-pub fn value_at(t: &[u8; 256], text: &[u8], i: usize) -> u8
-    requires t_value { t.now ≡ value_table }
+pub fn value_at(t: &ValueTable, text: &[u8], i: usize) -> u8
     requires text_value { (known text.now ≡ true) × (i < length text.now) }
     ensures { (result ≡ value (get_or text.now i 0)) × (result < 64) }
 {
@@ -63,16 +72,10 @@ pub fn value_at(t: &[u8; 256], text: &[u8], i: usize) -> u8
 }
 
 // How many characters of a text, from its start on, are of the alphabet.
-pub fn leading(t: &[u8; 256], text: &[u8]) -> usize
-    requires { t.now ≡ value_table }
+pub fn leading(t: &ValueTable, text: &[u8]) -> usize
     ensures { Leading result text.now }
 {
-    let mut i = 0;
-    while i < text.len() {
-        if 64 <= value_of(t, text[i]) {
-            return i;
-        }
-        i += 1;
-    }
-    i
+    text.iter()
+        .position(|&c| 64 <= value_of(t, c))
+        .unwrap_or(text.len())
 }

@@ -1,25 +1,20 @@
 // RFC 4648, section 6: base32 of whole groups of five bytes.
-ghost use Rattle.std.specs.Prelude.{◌≡◌, [], ◌∷◌, ◌<◌, ◌≤◌, ◌*◌, ◌/◌, ◌%◌, length};
+ghost use Rattle.std.specs.Prelude.{◌≡◌, [], ◌∷◌, ◌≤◌, ◌*◌, ◌/◌, ◌%◌, length};
 ghost use Rattle.octets.specs.Bytes.{placed};
 ghost use Rattle.encoding.specs.Base32 as spec;
+
+use crate::alphabet::letter_of;
 
 const LETTERS: [u8; 32] = [
     65, 66, 67, 68, 69, 70, 71, 72, 73, 74, 75, 76, 77, 78, 79, 80, 81, 82, 83, 84, 85, 86, 87, 88,
     89, 90, 50, 51, 52, 53, 54, 55,
 ];
 
+// Kept: `alphabet::letters` with another constant; a generic function would have to be given the constant that it hands out.
 fn letters() -> [u8; 32]
     ensures { result ≡ spec.alphabet }
 {
     LETTERS
-}
-
-fn letter_of(t: &[u8; 32], v: u8) -> u8
-    requires t_value { t.now ≡ spec.alphabet }
-    requires v_bound { v < 32 }
-    ensures { result ≡ spec.letter v }
-{
-    t[v as usize]
 }
 
 // Writes the text of five bytes to the front of out.
@@ -45,8 +40,7 @@ pub fn encode(bytes: &[u8], out: &mut [u8])
 {
     let t = letters();
     let n = bytes.len() / 5;
-    let mut i = 0;
-    while i < n {
+    for i in 0..n {
         let from = 5 * i;
         let at = 8 * i;
         encode_group(
@@ -58,6 +52,5 @@ pub fn encode(bytes: &[u8], out: &mut [u8])
             bytes[from + 4],
             &mut out[at..],
         );
-        i += 1;
     }
 }

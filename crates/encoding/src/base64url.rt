@@ -4,19 +4,18 @@ ghost use Rattle.octets.specs.Bytes.{placed};
 ghost use Rattle.encoding.specs.Base64url as spec;
 ghost use Rattle.encoding.specs.Leading.{Leading};
 ghost use Rattle.encoding.specs.Measures.{measure_of};
-ghost use Rattle.encoding.specs.ValueTable.{value_table};
 
-use crate::alphabet::{leading, letter_of, letters, value_at, value_of, values};
+use crate::alphabet::{
+    LetterTable, ValueTable, leading, letter_of, letters, value_at, value_of, values,
+};
 use crate::broken::stop_from;
 
-// How many bytes a text stands for, or the place where it is broken.
+/// The place where a text is broken: the first character at which no well-formed text can go on, or the length where it only ends too early.
 #[derive(Clone, Copy)]
-pub enum Measure {
-    Accepted(usize),
-    Refused(usize),
-}
+pub struct BrokenAt(pub usize);
 
 // How many characters n bytes are encoded to.
+// Kept: `padded`, here and below, is the text's form, by which the definitions of specs/Base64url go, and no choice of what to run.
 pub fn encoded_length(n: usize, padded: bool) -> usize
     requires { n < 2 ^ 63 }
     ensures { result ≡ spec.encoded_length padded n }
@@ -28,26 +27,25 @@ pub fn encoded_length(n: usize, padded: bool) -> usize
 }
 
 // Writes the text of three bytes to the front of out.
-fn encode_three(t: &[u8; 64], a: u8, b: u8, c: u8, out: &mut [u8])
-    requires t_value { t.now ≡ spec.alphabet }
+fn encode_three(t: &LetterTable, a: u8, b: u8, c: u8, out: &mut [u8])
     requires in_bounds { 4 ≤ length out.old }
     ensures { out.new ≡ placed (spec.encode false (a ∷ b ∷ c ∷ [])) 0 out.old }
 {
-    out[0] = letter_of(t, a / 4);
-    out[1] = letter_of(t, a % 4 * 16 + b / 16);
-    out[2] = letter_of(t, b % 16 * 4 + c / 64);
-    out[3] = letter_of(t, c % 64);
+    out[0] = letter_of(&t.bytes, a / 4);
+    out[1] = letter_of(&t.bytes, a % 4 * 16 + b / 16);
+    out[2] = letter_of(&t.bytes, b % 16 * 4 + c / 64);
+    out[3] = letter_of(&t.bytes, c % 64);
 }
 
+// Kept: one function for each number of bytes: RFC 4648 has other letters and another end for each, so that one for all branches by it at each store.
 // Writes the text of the last two bytes to the front of out.
-fn encode_two(t: &[u8; 64], a: u8, b: u8, padded: bool, out: &mut [u8])
-    requires t_value { t.now ≡ spec.alphabet }
+fn encode_two(t: &LetterTable, a: u8, b: u8, padded: bool, out: &mut [u8])
     requires in_bounds { (3 ≤ length out.old) × (padded ≡ true → 4 ≤ length out.old) }
     ensures { out.new ≡ placed (spec.encode padded (a ∷ b ∷ [])) 0 out.old }
 {
-    out[0] = letter_of(t, a / 4);
-    out[1] = letter_of(t, a % 4 * 16 + b / 16);
-    out[2] = letter_of(t, b % 16 * 4);
+    out[0] = letter_of(&t.bytes, a / 4);
+    out[1] = letter_of(&t.bytes, a % 4 * 16 + b / 16);
+    out[2] = letter_of(&t.bytes, b % 16 * 4);
     if !padded {
         return;
     }
@@ -55,13 +53,12 @@ fn encode_two(t: &[u8; 64], a: u8, b: u8, padded: bool, out: &mut [u8])
 }
 
 // Writes the text of the last byte to the front of out.
-fn encode_one(t: &[u8; 64], a: u8, padded: bool, out: &mut [u8])
-    requires t_value { t.now ≡ spec.alphabet }
+fn encode_one(t: &LetterTable, a: u8, padded: bool, out: &mut [u8])
     requires in_bounds { (2 ≤ length out.old) × (padded ≡ true → 4 ≤ length out.old) }
     ensures { out.new ≡ placed (spec.encode padded (a ∷ [])) 0 out.old }
 {
-    out[0] = letter_of(t, a / 4);
-    out[1] = letter_of(t, a % 4 * 16);
+    out[0] = letter_of(&t.bytes, a / 4);
+    out[1] = letter_of(&t.bytes, a % 4 * 16);
     if !padded {
         return;
     }
@@ -70,8 +67,7 @@ fn encode_one(t: &[u8; 64], a: u8, padded: bool, out: &mut [u8])
 }
 
 // Writes the text of the last bytes, fewer than three, to the front of out.
-fn encode_end(t: &[u8; 64], bytes: &[u8], padded: bool, out: &mut [u8])
-    requires t_value { t.now ≡ spec.alphabet }
+fn encode_end(t: &LetterTable, bytes: &[u8], padded: bool, out: &mut [u8])
     requires bytes_len_bound { (length bytes.now < 3) × (spec.encoded_length padded (length bytes.now) ≤ length out.old) }
     ensures { out.new ≡ placed (spec.encode padded bytes.now) 0 out.old }
 {
@@ -92,8 +88,7 @@ pub fn encode(bytes: &[u8], padded: bool, out: &mut [u8])
 {
     let t = letters();
     let n = bytes.len() / 3;
-    let mut i = 0;
-    while i < n {
+    for i in 0..n {
         let from = 3 * i;
         let at = 4 * i;
         encode_three(
@@ -103,7 +98,6 @@ pub fn encode(bytes: &[u8], padded: bool, out: &mut [u8])
             bytes[from + 2],
             &mut out[at..],
         );
-        i += 1;
     }
     let from = 3 * n;
     let at = 4 * n;
@@ -142,8 +136,7 @@ fn pad_length(text: &[u8], padded: bool) -> usize
 }
 
 // Are the pad bits of the last characters, fewer than four, zero?
-fn canonical_end(t: &[u8; 256], text: &[u8]) -> bool
-    requires t_value { t.now ≡ value_table }
+fn canonical_end(t: &ValueTable, text: &[u8]) -> bool
     requires text_len_bound { length text.now < 4 }
     ensures { result ≡ spec.canonical (map spec.value text.now) }
 {
@@ -159,9 +152,9 @@ fn canonical_end(t: &[u8; 256], text: &[u8]) -> bool
     value_of(t, text[2]) % 4 == 0
 }
 
+// Kept: the clause `leading`, here and in `measure_from`, and no type of the text and its run: docs/DECISIONS.md names `alphabet::leading`, which answers the number.
 // Is the text accepted, which begins with n characters of the alphabet?
-fn accepted(t: &[u8; 256], text: &[u8], n: usize, padded: bool) -> bool
-    requires t_value { t.now ≡ value_table }
+fn accepted(t: &ValueTable, text: &[u8], n: usize, padded: bool) -> bool
     requires leading { Leading n text.now }
     ensures { result ≡ spec.accepted padded text.now }
 {
@@ -183,20 +176,18 @@ pub fn decoded_length(n: usize) -> usize
 }
 
 // What `check` answers of a text that begins with n characters of the alphabet. A text has no more bytes than characters.
-pub fn measure_from(t: &[u8; 256], text: &[u8], n: usize, padded: bool) -> Measure
-    requires t_value { t.now ≡ value_table }
+pub fn measure_from(t: &ValueTable, text: &[u8], n: usize, padded: bool) -> Result<usize, BrokenAt>
     requires leading { Leading n text.now }
     ensures { result ≡ measure_of padded text.now }
 {
     if accepted(t, text, n, padded) {
-        return Measure::Accepted(decoded_length(n));
+        return Ok(decoded_length(n));
     }
-    Measure::Refused(stop_from(t, text, n, padded, 0, text.len()))
+    Err(BrokenAt(stop_from(t, text, n, padded, 0, text.len())))
 }
 
-// How many bytes the text stands for, or the place where it is broken: the first character at which no well-formed text can go on, or the length
-// where it only ends too early.
-pub fn check(text: &[u8], padded: bool) -> Measure
+// How many bytes the text stands for, or the place where it is broken.
+pub fn check(text: &[u8], padded: bool) -> Result<usize, BrokenAt>
     ensures { result ≡ measure_of padded text.now }
 {
     let t = values();
@@ -205,8 +196,7 @@ pub fn check(text: &[u8], padded: bool) -> Measure
 }
 
 // Writes the bytes of the first four characters of the text to the front of out.
-fn decode_four(t: &[u8; 256], text: &[u8], out: &mut [u8])
-    requires t_value { t.now ≡ value_table }
+fn decode_four(t: &ValueTable, text: &[u8], out: &mut [u8])
     requires text_value { spec.known text.now ≡ true }
     requires in_bounds { (4 ≤ length text.now) × (3 ≤ length out.old) }
     ensures { out.new ≡ placed (spec.octets (map spec.value (take 4 text.now))) 0 out.old }
@@ -221,8 +211,7 @@ fn decode_four(t: &[u8; 256], text: &[u8], out: &mut [u8])
 }
 
 // Writes the bytes of the last characters, fewer than four, to the front of out.
-fn decode_end(t: &[u8; 256], text: &[u8], out: &mut [u8])
-    requires t_value { t.now ≡ value_table }
+fn decode_end(t: &ValueTable, text: &[u8], out: &mut [u8])
     requires text_value { spec.known text.now ≡ true }
     requires text_len_bound { (length text.now < 4) × (length text.now * 3 / 4 ≤ length out.old) }
     ensures { out.new ≡ placed (spec.octets (map spec.value text.now)) 0 out.old }
@@ -248,12 +237,10 @@ fn decode_body(text: &[u8], out: &mut [u8])
 {
     let t = values();
     let n = text.len() / 4;
-    let mut i = 0;
-    while i < n {
+    for i in 0..n {
         let from = 4 * i;
         let at = 3 * i;
         decode_four(&t, &text[from..], &mut out[at..]);
-        i += 1;
     }
     let from = 4 * n;
     let at = 3 * n;

@@ -2,9 +2,8 @@
 ghost use Rattle.std.specs.Prelude.{◌≡◌, ◌≤◌, ◌<◌, leb, length, get_or, drop};
 ghost use Rattle.encoding.specs.Broken as spec;
 ghost use Rattle.encoding.specs.Leading.{before};
-ghost use Rattle.encoding.specs.ValueTable.{value_table};
 
-use crate::alphabet::value_of;
+use crate::alphabet::{ValueTable, value_of};
 
 // The fewest bytes that a text can stand for that begins with n characters of the alphabet, of which the last stands for v.
 fn fewest_bytes(n: usize, v: u8) -> usize
@@ -30,8 +29,7 @@ fn fewest_bytes(n: usize, v: u8) -> usize
 }
 
 // May '=' stand at place i, after the character b, in a text of at least `least` bytes?
-fn pad_fits(t: &[u8; 256], least: usize, i: usize, b: u8) -> bool
-    requires { t.now ≡ value_table }
+fn pad_fits(t: &ValueTable, least: usize, i: usize, b: u8) -> bool
     ensures { result ≡ spec.pad_fits least i b }
 {
     let whole = i / 4 * 3;
@@ -53,6 +51,7 @@ fn pad_fits(t: &[u8; 256], least: usize, i: usize, b: u8) -> bool
     least <= whole + 2
 }
 
+// Kept: 0 before the first, as `before` of specs/Leading: an Option would be made and taken apart at each character.
 // The character before place i, and 0 before the first.
 fn character_before(text: &[u8], i: usize) -> u8
     requires { i ≤ length text.now }
@@ -65,8 +64,7 @@ fn character_before(text: &[u8], i: usize) -> u8
 }
 
 // May the character at place i stand there, in a text of at least `least` and at most `most` bytes?
-fn fits(t: &[u8; 256], text: &[u8], i: usize, padded: bool, least: usize, most: usize) -> bool
-    requires t_value { t.now ≡ value_table }
+fn fits(t: &ValueTable, text: &[u8], i: usize, padded: bool, least: usize, most: usize) -> bool
     requires i_in_bounds { i < length text.now }
     ensures { result ≡ spec.fits padded least (λ n. leb n most) i (before text.now i) (get_or text.now i 0) }
 {
@@ -90,23 +88,20 @@ fn fits(t: &[u8; 256], text: &[u8], i: usize, padded: bool, least: usize, most: 
 /// The first place, from `from` on, of a character that may not stand where it does, or the length: in a text of at least `least` and at most
 /// `most` bytes.
 pub fn stop_from(
-    t: &[u8; 256],
+    t: &ValueTable,
     text: &[u8],
     from: usize,
     padded: bool,
     least: usize,
     most: usize,
 ) -> usize
-    requires t_value { t.now ≡ value_table }
     requires from_in_bounds { from ≤ length text.now }
     ensures { result ≡ spec.stop_from padded least (λ n. leb n most) from (before text.now from) (drop from text.now) }
 {
-    let mut i = from;
-    while i < text.len() {
+    for i in from..text.len() {
         if !fits(t, text, i, padded, least, most) {
             return i;
         }
-        i += 1;
     }
-    i
+    text.len()
 }

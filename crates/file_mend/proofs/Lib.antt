@@ -1,3 +1,4 @@
 pub mod Under
 pub mod InPlace
 pub mod Demands
+pub mod Spots

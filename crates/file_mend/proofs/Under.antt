@@ -1,7 +1,8 @@
 -- The ends of a mend under the MAC master key and a header's nonce and content key, and how it is the mend, in either combo.
 -- Assumes nothing.
-use Prim.Native.Nat.{ℕ, ◌+◌, ◌*◌, ◌/◌, ◌≤◌, ◌<◌}
-use mathlib.Core.Path.{◌≡◌, sym}
+use Prim.Native.Nat.{ℕ, ◌+◌, ◌-◌, ◌*◌, ◌/◌, ◌≤◌, ◌<◌}
+use mathlib.Core.Path.{◌≡◌, sym, ap₂}
+use native.Mathlib.Omega.{arith}
 use mathlib.Core.Bool.{true, false}
 use mathlib.Core.List.{List, [], ◌∷◌}
 use borrow.Author.Tests.{lt-ltb, le-ltb, eq-eqb}
@@ -9,19 +10,28 @@ use lib.Dec.{lit≤}
 use lib.ListN.{length, take}
 use lib.Seq.{take-take}
 use Rattle.octets.specs.Rows.{done, refused, refused_at, answer, ended}
-use Rattle.aes_spec.specs.Cipher.{aes}
-use Rattle.frame.specs.Layout.{chunk_size, covering, clear_length, right_length, header_at}
+use Rattle.aes_spec.specs.Cipher.{aes, cipher}
+use Rattle.frame.specs.Layout.{chunk_size, covering, lowest_bad, clear_length, right_length, header_at}
 use Rattle.frame.specs.Frame.{head_in, bad_chunk}
 use Rattle.siv_gcm.specs.SivGcm as gcm
 use Rattle.siv_ctrmac.specs.SivCtrmac as ctrmac
 use Rattle.vault.specs.declared.record.Combo.{Combo}
 use Rattle.vault.specs.declared.record.Combo.TheVariants.{SivGcm, SivCtrmac}
 use Rattle.vault.specs.Vault.{sizes_of, codec_with}
+use Rattle.vault.specs.Under.{good_under}
 use Rattle.file_parts.specs.Under.{bad_under}
 use Rattle.mend_spec.specs.Mend.{clashes, mended, mend_rows, mend_file}
 use Rattle.mend_spec.proofs.Ends.{mend_ends}
 use Rattle.mend_spec.proofs.Steps.{row_9}
 use Rattle.file_mend.specs.Under.{mended_under, mend_under}
+
+-- the lowest bad chunk from the first covering chunk up to e, where w is the key schedule of the content key
+pub lowest_under : (c : Combo) (w mac n k f : List ℕ) (from count e : ℕ) → e ≡ from / chunk_size + covering from count → cipher 14 w ≡ aes 8 k
+    → lowest_bad (sizes_of c) (good_under c (cipher 14 w) mac n) f (from / chunk_size) (e - from / chunk_size) ≡ bad_under c mac n k f from count
+unfolding bad_under
+lowest_under c w mac n k f from count e he hw =
+    let m : e - from / chunk_size ≡ covering from count = omega (arith, he) in
+    ap₂ (λ (b : List ℕ → List ℕ) (j : ℕ). lowest_bad (sizes_of c) (good_under c b mac n) f (from / chunk_size) j) hw m
 
 module _ (c : Combo) (mac n k f : List ℕ) (from : ℕ) (new nonces : List ℕ) where
   pub under_bad : bad_under c mac n k f from (length new) < from / chunk_size + covering from (length new)

@@ -6,7 +6,6 @@ ghost use Rattle.mend_spec.specs.Mend.{in_use, any_in_use};
 
 use file_parts::chunks::chunk_of;
 use file_parts::nonces::{nonce, repeats};
-use octets::slice::equal;
 use vault::record::Combo;
 use vault::sizes::sizes_of;
 
@@ -17,13 +16,11 @@ fn in_use(combo: Combo, x: &[u8], file: &[u8], n: usize) -> bool
 {
     let w = sizes_of(combo).nonce;
     let k = frame::chunks(n);
-    let mut i = 0;
-    while i < k {
+    for i in 0..k {
         let chunk = chunk_of(combo, file, n, i);
-        if equal(x, &chunk[..w]) {
+        if x == &chunk[..w] {
             return true;
         }
-        i += 1;
     }
     false
 }
@@ -34,12 +31,10 @@ fn any_in_use(combo: Combo, k: usize, nonces: &[u8], file: &[u8], n: usize) -> b
     ensures { result ≡ any_in_use (sizes_of combo) k nonces.now file.now (chunks n) }
 {
     let w = sizes_of(combo).nonce;
-    let mut i = 0;
-    while i < k {
+    for i in 0..k {
         if in_use(combo, nonce(w, nonces, i), file, n) {
             return true;
         }
-        i += 1;
     }
     false
 }
@@ -49,8 +44,5 @@ pub fn clash(combo: Combo, k: usize, nonces: &[u8], file: &[u8], n: usize) -> bo
     requires { ((sizes_of combo).nonce * k ≤ length nonces.now) × (length file.now ≡ file_length (sizes_of combo) n) }
     ensures { result ≡ (repeats (sizes_of combo).nonce k nonces.now || any_in_use (sizes_of combo) k nonces.now file.now (chunks n)) }
 {
-    if repeats(sizes_of(combo).nonce, k, nonces) {
-        return true;
-    }
-    any_in_use(combo, k, nonces, file, n)
+    repeats(sizes_of(combo).nonce, k, nonces) || any_in_use(combo, k, nonces, file, n)
 }

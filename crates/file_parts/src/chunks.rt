@@ -1,12 +1,11 @@
 // The chunks of a file: where they stand, which cover a range, and the lowest whose tag or MAC is wrong.
-ghost use Rattle.std.specs.Prelude.{◌≡◌, ◌+◌, ◌-◌, ◌*◌, ◌/◌, ◌≤◌, ◌<◌, ◌^◌, min, length};
+ghost use Rattle.std.specs.Prelude.{◌≡◌, ◌+◌, ◌-◌, ◌*◌, ◌/◌, ◌≤◌, ◌<◌, ◌^◌, min, length, MatchOption};
 ghost use Rattle.aes_spec.specs.Cipher.{cipher};
-ghost use Rattle.gcm.specs.Keyed.{Keyed};
 ghost use Rattle.frame.specs.Layout.{covering, stored, file_length, chunk_at, lowest_bad};
 ghost use Rattle.vault.specs.Vault.{sizes_of};
 ghost use Rattle.vault.specs.Under.{sizes_in, good_under};
 
-use vault::chunk::good_chunk;
+use vault::chunk::FileKeys;
 use vault::record::Combo;
 use vault::sizes::{ComboSizes, sizes_of};
 
@@ -15,8 +14,7 @@ fn end_of(start: usize, full: usize, l: usize) -> usize
     requires { (start ≤ l) × (l < 2 ^ 63) × (full < 2 ^ 63) }
     ensures { result ≡ min (start + full) l }
 {
-    let e = start + full;
-    if e < l { e } else { l }
+    (start + full).min(l)
 }
 
 // Where a chunk starts in a file, and where it ends.
@@ -53,9 +51,7 @@ pub fn chunk_of(combo: Combo, file: &[u8], n: usize, i: usize) -> &[u8]
     ensures { (result.now ≡ chunk_at (sizes_of combo) file.now i) × (length result.now ≡ min 32768 (n - 32768 * i) + (sizes_of combo).overhead) }
 {
     let span = span_of(combo, file.len(), n, i);
-    let a = span.start;
-    let b = span.end;
-    &file[a..b]
+    &file[span.start..span.end]
 }
 
 // How many chunks cover a range, inside a cleartext or not. They are counted from the first on, so that no sum can wrap.
@@ -77,30 +73,16 @@ pub fn end_chunk(from: usize, count: usize) -> usize
     from / 32768 + covering(from, count)
 }
 
-// The lowest chunk from `first` up to e whose tag or MAC is wrong, or e.
-pub fn lowest_bad(
-    combo: Combo,
-    t: &[u32; 256],
-    w: &[u32],
-    m: &[u64; 32],
-    mac: &[u8],
-    header_nonce: &[u8],
-    file: &[u8],
-    n: usize,
-    first: usize,
-    e: usize,
-) -> usize
-    requires keyed { Keyed t.now w.now m.now }
-    requires header_nonce_len { (length header_nonce.now ≡ (sizes_of combo).nonce) × (length file.now ≡ file_length (sizes_of combo) n) × (32768 * e < n + 32768) × (first ≤ e) }
-    ensures { result ≡ lowest_bad (sizes_of combo) (good_under combo (cipher 14 w.now) mac.now header_nonce.now) file.now first (e - first) }
+// The lowest chunk from `first` up to e whose tag or MAC is wrong.
+pub fn lowest_bad(keys: &FileKeys, file: &[u8], n: usize, first: usize, e: usize) -> Option<usize>
+    requires { (length file.now ≡ file_length (sizes_of keys.now.combo) n) × (32768 * e < n + 32768) × (first ≤ e) }
+    ensures { MatchOption result (lowest_bad (sizes_of keys.now.combo) (good_under keys.now.combo (cipher 14 keys.now.content.w.now) keys.now.mac.now keys.now.header_nonce.now) file.now first (e - first) ≡ e) (λ i. (lowest_bad (sizes_of keys.now.combo) (good_under keys.now.combo (cipher 14 keys.now.content.w.now) keys.now.mac.now keys.now.header_nonce.now) file.now first (e - first) ≡ i) × (i < e)) }
 {
-    let mut i = first;
-    while i < e {
-        let chunk = chunk_of(combo, file, n, i);
-        if !good_chunk(combo, t, w, m, mac, header_nonce, i as u64, chunk) {
-            return i;
+    for i in first..e {
+        let chunk = chunk_of(keys.combo, file, n, i);
+        if !keys.good(i as u64, chunk) {
+            return Some(i);
         }
-        i += 1;
     }
-    i
+    None
 }

@@ -1,11 +1,11 @@
 // A range of a cleartext: whether it lies inside, and its parts.
 ghost use Rattle.std.specs.Prelude.{◌≡◌, ◌+◌, ◌-◌, ◌≤◌, ◌<◌, min, ltb};
 
-// Does the range end past n? The end is not computed, since it may not fit: count is held against n, then from against n - count.
+// Does the range end past n? Its end may not fit, and then it does.
 pub fn outside(n: usize, from: usize, count: usize) -> bool
     ensures { result ≡ ltb n (from + count) }
 {
-    n < count || n - count < from
+    from.checked_add(count).is_none_or(|end| n < end)
 }
 
 // How much of the rest of a chunk, from its byte lo on, is wanted.
@@ -13,5 +13,5 @@ pub fn part_len(lo: usize, left: usize) -> usize
     requires { (lo < 32768) × (0 < left) }
     ensures { (result ≡ min (32768 - lo) left) × (0 < result) × (lo + result ≤ 32768) × (result ≤ left) }
 {
-    if 32768 - lo < left { 32768 - lo } else { left }
+    left.min(32768 - lo)
 }

@@ -6,6 +6,7 @@ use vault::record::Combo;
 
 /// What chunks are read under: the content key of the file; the MAC master key in SIV_CTRMAC, zeros in SIV_GCM, which does not need it; and the combo. Any
 /// value of this type is a reader's keys.
+// Kept: zeros for the MAC key in SIV_GCM, since the C interface keeps a reader's keys as 65 bytes, of which 32 are these.
 #[derive(Clone, Copy)]
 pub struct ReaderKeys {
     pub content: [u8; 32],

@@ -14,7 +14,7 @@ ghost use Rattle.file_reader.specs.Kept.{kept_with, open_kept, read_kept};
 use crate::keys::ReaderKeys;
 use crate::opening::{held, open_keys};
 use crate::range::read_kept;
-use answer::Answer;
+use answer::Refusal;
 use vault::record::Vault;
 
 /// The bytes of a file, and its keys. Any value of this type is a reader.
@@ -25,9 +25,10 @@ pub struct Reader<'a> {
 }
 
 /// What the making of a reader answers, and beside it the reader; the reader of no bytes beside a refusal.
+// Kept: a pair, since a refused file too gives a reader, through which `read_twice` reads (`reads_as_range`: by row 4).
 #[derive(Clone, Copy)]
 pub struct Opened<'a> {
-    pub answer: Answer,
+    pub answer: Result<usize, Refusal>,
     pub reader: Reader<'a>,
 }
 
@@ -47,7 +48,12 @@ pub fn open_reader<'a>(v: Vault, file: &'a [u8]) -> Opened<'a>
 }
 
 /// Reads count bytes of the cleartext, from `from` on, into out. Rows 4, 6, 7, 10 with the lowest chunk whose tag or MAC is wrong.
-pub fn read<'a, 'o>(r: Reader<'a>, from: usize, count: usize, out: &'o mut [u8]) -> Answer
+pub fn read<'a, 'o>(
+    r: Reader<'a>,
+    from: usize,
+    count: usize,
+    out: &'o mut [u8],
+) -> Result<usize, Refusal>
     ensures { ended (meaning result) out.new ≡ read_kept r.entry.keys r.entry.file.now from count out.old }
 {
     read_kept(r.file, r.keys, from, count, out)

@@ -4,17 +4,17 @@ ghost use Rattle.answer.specs.Meaning.{row, meaning};
 ghost use Rattle.file_reader.specs.Kept.{keys_with, file_by, open_kept};
 
 use crate::keys::{ReaderKeys, keys_of, no_keys};
-use aes::round_table::table;
-use answer::{Answer, Refusal};
+use aes::round_table::RoundTable;
+use answer::Refusal;
 use file_parts::header::open_head;
-use octets::slice::copy_at;
 use vault::lengths::{clear_length, right_length};
 use vault::record::{Combo, Vault};
 
 /// What the making of a reader answers, and the keys that the reader holds.
+// Kept: a pair, since beside a refusal too there are keys, of zeros, by which `read_twice` reads (its theorem `reads_as_range` says by row 4).
 #[derive(Clone, Copy)]
 pub struct Opening {
-    pub answer: Answer,
+    pub answer: Result<usize, Refusal>,
     pub keys: ReaderKeys,
 }
 
@@ -23,7 +23,7 @@ fn refuse(refusal: Refusal, combo: Combo) -> Opening
     ensures { (meaning result.answer ≡ row refusal) × (result.keys ≡ keys_with (replicate 32 0) (replicate 32 0) combo) }
 {
     Opening {
-        answer: Answer::Refused(refusal),
+        answer: Err(refusal),
         keys: no_keys(combo),
     }
 }
@@ -36,27 +36,24 @@ pub fn open_keys(v: Vault, file: &[u8]) -> Opening
     if !right_length(combo, file.len()) {
         return refuse(Refusal::Length, combo);
     }
-    let enc = v.enc;
-    let mac = v.mac;
-    let t = table();
-    let mut payload = [0u8; 40];
-    if !open_head(combo, &t, &enc, &mac, file, &mut payload) {
+    let t = RoundTable::new();
+    let Some(payload) = open_head(combo, &t, &v.enc, &v.mac, file) else {
         return refuse(Refusal::Header, combo);
-    }
+    };
     let mut content = [0u8; 32];
-    copy_at(&payload[8..40], &mut content, 0);
+    content.copy_from_slice(&payload[8..]);
     Opening {
-        answer: Answer::Done(clear_length(combo, file.len())),
-        keys: keys_of(content, mac, combo),
+        answer: Ok(clear_length(combo, file.len())),
+        keys: keys_of(content, v.mac, combo),
     }
 }
 
 /// What a reader holds of a file: all of it, or nothing where the making is refused.
-pub fn held(answer: Answer, file: &[u8]) -> &[u8]
+pub fn held(answer: Result<usize, Refusal>, file: &[u8]) -> &[u8]
     ensures { result.now ≡ file_by (meaning answer) file.now }
 {
     match answer {
-        Answer::Done(_) => file,
-        Answer::Refused(_) => &file[..0],
+        Ok(_) => file,
+        Err(_) => &file[..0],
     }
 }

@@ -5,14 +5,14 @@ ghost use Rattle.answer.specs.Meaning.{meaning};
 ghost use Rattle.file_reader.specs.Kept.{open_kept, read_kept};
 
 use crate::{open_reader, read};
-use answer::Answer;
+use answer::Refusal;
 use vault::record::Vault;
 
 /// What two reads through one reader answer.
 #[derive(Clone, Copy)]
 pub struct TwoAnswers {
-    pub first: Answer,
-    pub second: Answer,
+    pub first: Result<usize, Refusal>,
+    pub second: Result<usize, Refusal>,
 }
 
 /// Makes the reader of a file and reads two ranges through it, the first into out, the second into next.

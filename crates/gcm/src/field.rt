@@ -4,6 +4,8 @@ ghost use Rattle.std.specs.Int.Bits.{bit_xor};
 ghost use Rattle.gcm.specs.Field as spec;
 ghost use Rattle.gcm.specs.Elements.{value};
 
+use std::ops::BitXor;
+
 // A block of 128 bits: the first 64, and the last 64.
 #[derive(Clone, Copy)]
 pub struct Element {
@@ -11,12 +13,17 @@ pub struct Element {
     pub lo: u64,
 }
 
-pub fn add(x: Element, y: Element) -> Element
-    ensures { value result ≡ bit_xor (value x) (value y) }
-{
-    Element {
-        hi: x.hi ^ y.hi,
-        lo: x.lo ^ y.lo,
+// The sum.
+impl BitXor for Element {
+    type Output = Element;
+
+    ghost bitxor_gives = { λ x y z. value z ≡ bit_xor (value x) (value y) };
+
+    fn bitxor(self, rhs: Element) -> Element {
+        Element {
+            hi: self.hi ^ rhs.hi,
+            lo: self.lo ^ rhs.lo,
+        }
     }
 }
 

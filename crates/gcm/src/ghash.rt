@@ -7,28 +7,32 @@ ghost use Rattle.gcm.specs.Elements.{value};
 ghost use Rattle.gcm.specs.Table.{Entries};
 ghost use Rattle.gcm.specs.Gcm as spec;
 
-use crate::field::{Element, add};
+use crate::field::Element;
 use crate::table::times;
 use aes::block::{Block, block_at, to_bytes};
 use octets::slice::copy_at;
 
-pub fn of_block(x: Block) -> Element
-    ensures { value result ≡ int (state x) }
-{
-    Element {
-        hi: (x.a as u64) * 4294967296 + (x.b as u64),
-        lo: (x.c as u64) * 4294967296 + (x.d as u64),
+impl From<Block> for Element {
+    ghost from_gives = { λ x y. value y ≡ int (state x) };
+
+    fn from(x: Block) -> Element {
+        Element {
+            hi: (x.a as u64) * 4294967296 + (x.b as u64),
+            lo: (x.c as u64) * 4294967296 + (x.d as u64),
+        }
     }
 }
 
-pub fn to_block(x: Element) -> Block
-    ensures { state result ≡ be 16 (value x) }
-{
-    Block {
-        a: (x.hi / 4294967296) as u32,
-        b: (x.hi % 4294967296) as u32,
-        c: (x.lo / 4294967296) as u32,
-        d: (x.lo % 4294967296) as u32,
+impl From<Element> for Block {
+    ghost from_gives = { λ x y. state y ≡ be 16 (value x) };
+
+    fn from(x: Element) -> Block {
+        Block {
+            a: (x.hi / 4294967296) as u32,
+            b: (x.hi % 4294967296) as u32,
+            c: (x.lo / 4294967296) as u32,
+            d: (x.lo % 4294967296) as u32,
+        }
     }
 }
 
@@ -58,7 +62,7 @@ fn block_of(s: &[u8], i: usize) -> Block
 fn step(m: &[u64; 32], y: Element, x: Block) -> Element
     ensures { (h : ℕ) → Entries h m.now 16 → value result ≡ spec.ghash_step h (value y) (state x) }
 {
-    times(m, add(y, of_block(x)))
+    times(m, y ^ Element::from(x))
 }
 
 // From y on, over the blocks of s. `step`, and so `times`, is called in this one place, so that the compiler makes it part of the loop.
@@ -68,10 +72,8 @@ fn absorb(m: &[u64; 32], y: Element, s: &[u8]) -> Element
 {
     let n = (s.len() + 15) / 16;
     let mut z = y;
-    let mut i = 0;
-    while i < n {
+    for i in 0..n {
         z = step(m, z, block_of(s, i));
-        i += 1;
     }
     z
 }
@@ -87,5 +89,5 @@ pub fn hashed(m: &[u64; 32], aad: &[u8], ciphertext: &[u8]) -> Element
     };
     let y = absorb(m, Element { hi: 0, lo: 0 }, aad);
     let z = absorb(m, y, ciphertext);
-    absorb(m, z, &to_bytes(to_block(lengths)))
+    absorb(m, z, &to_bytes(Block::from(lengths)))
 }

@@ -7,8 +7,8 @@ ghost use Rattle.gcm.specs.Elements.{value, wide};
 ghost use Rattle.gcm.specs.Digits.{nexts};
 ghost use Rattle.gcm.specs.Table.{entry_of, four_bits, Entries};
 
-use crate::field::{Element, add, next, scale};
-use crate::wide::{Wide, plus, reduce, right4, right8, sum};
+use crate::field::{Element, next, scale};
+use crate::wide::{Wide, plus, reduce, right4, right8};
 
 // The multiple of h that entry i is: the block whose first four bits are i, times h, bit by bit.
 fn multiple(i: u64, h: Element) -> Element
@@ -16,11 +16,9 @@ fn multiple(i: u64, h: Element) -> Element
 {
     let mut z = Element { hi: 0, lo: 0 };
     let mut v = h;
-    let mut n: u64 = 0;
-    while n < 4 {
-        z = add(z, scale((i >> (3 - n)) % 2, v));
+    for n in 0..4u64 {
+        z = z ^ scale((i >> (3 - n)) % 2, v);
         v = next(v);
-        n += 1;
     }
     z
 }
@@ -30,12 +28,10 @@ pub fn fill(h: Element, m: &mut [u64])
     requires { length m.old ≡ 32 }
     ensures { Entries (value h) m.new 16 }
 {
-    let mut i = 0;
-    while i < 16 {
+    for i in 0..16 {
         let e = multiple(i as u64, h);
         m[2 * i] = e.hi;
         m[2 * i + 1] = e.lo;
-        i += 1;
     }
 }
 
@@ -71,17 +67,15 @@ fn product(m: &[u64; 32], x: Element) -> Wide
     let mut q = zero;
     let mut v = x.hi;
     let mut w = x.lo;
-    let mut n: usize = 0;
-    while n < 8 {
+    for _n in 0..8usize {
         let i = (v % 256) as usize;
         let j = (w % 256) as usize;
         p = step(m, p, i / 16, j / 16);
         q = step(m, q, i % 16, j % 16);
         v = v / 256;
         w = w / 256;
-        n += 1;
     }
-    sum(p, right4(q))
+    p ^ right4(q)
 }
 
 // X • H (6.3), for the hash subkey whose table m is.

@@ -8,9 +8,10 @@ use native.Mathlib.Nat.{add_assoc, add-suc, add-zero}
 use lib.ListN.{length, take, drop, length-append, length-take, length-drop}
 use lib.Seq.{take_all, take-append-le, drop-append-le, drop-drop}
 use Rattle.octets.specs.Bytes.{placed}
+use Rattle.octets.specs.Words.{word_bytes}
 use Rattle.octets.proofs.Lists.{drop_all, take-placed}
-use Rattle.hashing.specs.Message.{hash_from}
-use Rattle.hashing.specs.Running.{State, unhashed, After, Updated}
+use Rattle.hashing.specs.Message.{padding, hash_from}
+use Rattle.hashing.specs.Running.{State, unhashed, After, Updated, finished}
 
 module _ (compress : List ℕ → List ℕ → List ℕ) where
   -- Whole blocks are the same, whatever comes after them.
@@ -52,6 +53,12 @@ module _ (compress : List ℕ → List ℕ → List ℕ) where
   -- Bytes in two parts.
   pub updated_twice : (t q r : State) (s u : List ℕ) → Updated compress t s q → Updated compress q u r → Updated compress t (s ++ u) r
   updated_twice t q r s u a b = rw (length-append, ← append_assoc, ← add_assoc) (after_more a u b)
+
+  -- The hash value r after t and its padding p.
+  pub padded_last : (t : State) (r p : List ℕ) → p ≡ padding t.length → r ≡ hash_from compress t.words (unhashed t ++ p) (length (unhashed t ++ p) / 64)
+      → word_bytes r ≡ finished compress t
+  unfolding finished
+  padded_last t r p e h = rw h (rw e refl)
 
   -- The state r after t and s, in each of the three ways of the code.
   module _ (t r : State) (s : List ℕ) (long : length t.waiting ≡ 64) (more : r.length ≡ (t.length + length s) % 2 ^ 64) where

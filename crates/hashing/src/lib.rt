@@ -3,4 +3,5 @@
 
 pub mod operations;
 pub mod padding;
+pub mod running;
 pub mod words;

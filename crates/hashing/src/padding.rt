@@ -6,6 +6,7 @@ use octets::slice::copy_at;
 use octets::word::split_eight;
 
 // The first `length` bytes are the padding.
+// Kept: no heap, so its 9 to 72 bytes stand in an array with their number beside it.
 #[derive(Clone, Copy)]
 pub struct Padding {
     pub bytes: [u8; 72],

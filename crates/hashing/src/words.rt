@@ -10,10 +10,8 @@ pub fn load(s: &[u8], at: usize, w: &mut [u32])
     requires { (at + 64 ≤ length s.now) × (16 ≤ length w.old) }
     ensures { take 16 w.new ≡ words 16 (take 64 (drop at s.now)) }
 {
-    let mut t = 0;
-    while t < 16 {
+    for t in 0..16 {
         w[t] = word_at(s, at + 4 * t);
-        t += 1;
     }
 }
 
@@ -22,9 +20,17 @@ pub fn write_words(w: &[u32], out: &mut [u8], at: usize)
     requires { at + 4 * length w.now ≤ length out.old }
     ensures { out.new ≡ placed (word_bytes w.now) at out.old }
 {
-    let mut i = 0;
-    while i < w.len() {
+    for i in 0..w.len() {
         put_word(w[i], out, at + 4 * i);
-        i += 1;
     }
+}
+
+// The bytes of N words.
+pub fn word_bytes<const N: usize, const D: usize>(w: &[u32; N]) -> [u8; D]
+    requires { 4 * N ≡ D }
+    ensures { result ≡ word_bytes w.now }
+{
+    let mut out = [0u8; D];
+    write_words(w, &mut out, 0);
+    out
 }

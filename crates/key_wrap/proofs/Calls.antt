@@ -9,9 +9,9 @@ use native.Mathlib.Omega.{arith}
 use lib.Dec.{lit≤}
 use lib.ListN.{length}
 use Rattle.octets.specs.Bytes.{Bytes, filled}
-use Rattle.octets.specs.Rows.{done, EndsExactly, End, ended}
+use Rattle.octets.specs.Rows.{done, End, ended}
 use Rattle.octets.proofs.Lists.{le_or_lt}
-use Rattle.octets.proofs.Rows.{Matches, ends_exactly, ends_by, succeeds_exactly}
+use Rattle.octets.proofs.Rows.{Matches, ends_by, succeeds_exactly}
 use Rattle.octets.proofs.Tests.{self, eqb_exactly, ltb_fails, both_exactly, not_fails}
 use Rattle.aes_spec.specs.Cipher.{aes}
 use Rattle.aes_inverse.specs.InverseCipher.{inverse_aes}
@@ -21,15 +21,6 @@ use Rattle.key_wrap.specs.Calls.{key_size, wrapped_size, wrap_key_rows, wrap_key
 use Rattle.key_wrap.specs.Rules.{wrap_key_rules, unwrap_key_rules}
 use Rattle.key_wrap.specs.Statements.{Semiblocks, Key, Wrapping, KeyRowsExactly, KeyRowsAscend, SizesExactly, WrapsExactly, WrappedUnwraps, UnwrapsExactly, CheckValueExactly, OneKey, WrappedKeys}
 use Rattle.key_wrap.proofs.Undone.{wrap-undone}
-
--- For code: the end of each call by its rows.
-pub key_ends : ((kek key out : List ℕ) → EndsExactly (wrap_key_rows kek key (length out)) (wrapped_size ∷ []) (filled (wrap (aes 8 kek) key) wrapped_size out) out (wrap_key kek key out))
-    × ((kek c out : List ℕ) → EndsExactly (unwrap_key_rows kek c (length out)) (key_size ∷ []) (filled (plain (inverse_aes 8 kek) c) key_size out) out (unwrap_key kek c out))
-unfolding wrap_key_rows wrap_key unwrap_key_rows unwrap_key
-key_ends = (
-  λ kek key out. ends_exactly (wrap_key_rows kek key (length out)) refl (wrapped_size ∷ []) _ out,
-  λ kek c out. ends_exactly (unwrap_key_rows kek c (length out)) refl (key_size ∷ []) _ out,
-)
 
 -- ---- rows and rules
 

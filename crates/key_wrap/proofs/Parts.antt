@@ -1,23 +1,23 @@
 -- Registers of two words each, and the byte strings that the definitions speak of.
 -- Assumes nothing.
-use Prim.Native.Nat.{ℕ, ◌/◌, ◌^◌, ◌<◌}
+use Prim.Native.Nat.{ℕ, ◌+◌, ◌*◌, ◌/◌, ◌^◌, ◌<◌}
 use mathlib.Core.Path.{◌≡◌, refl, sym, ap, ap₂, ◌∙◌}
-use mathlib.Core.Bool.{◌&&◌}
-use mathlib.Core.List.{List, [], ◌∷◌, ◌++◌}
+use mathlib.Core.Bool.{true, ◌&&◌}
+use mathlib.Core.List.{List, [], ◌∷◌, ◌++◌, append-nil}
 use native.Mathlib.Nat.{mod-eq_of_lt}
 use native.Mathlib.Omega.{arith}
 use lib.Dec.{eqb}
-use lib.ListN.{length, take, drop, length-append, length-drop, take-append-drop}
-use lib.Seq.{drop-drop}
+use lib.ListN.{length, take, drop, take-append-drop, get_or}
+use lib.Seq.{drop-drop, paste, take-length}
 use lib.Bits.{bit_xor, xor_zero_r}
 use Rattle.octets.specs.Bytes.{same, placed}
 use Rattle.octets.specs.BigEndian.{be}
 use Rattle.octets.specs.Words.{b0, b1, b2, b3, word_bytes}
 use Rattle.octets.specs.Xors.{xors}
 use Rattle.octets.proofs.BigEndian.{be-word}
-use Rattle.octets.proofs.Equality.{same_self}
-use Rattle.octets.proofs.Lists.{drop_all, part-rest, placed_all, placed-placed}
-use Rattle.octets.proofs.Words.{xor_bytes, self}
+use Rattle.octets.proofs.Equality.{same_self, same_eq}
+use Rattle.octets.proofs.Lists.{drop_all, part-rest, placed-next, list_tab}
+use Rattle.octets.proofs.Words.{xor_bytes, self, length-word_bytes, word_bytes-at}
 use Rattle.aes_spec.specs.KeyExpansion.{key_expansion}
 use Rattle.aes_spec.specs.Cipher.{cipher, aes}
 use Rattle.aes.proofs.Ciphers.{under_key}
@@ -50,11 +50,12 @@ same_front [] (b ∷ y) z l = absurd (omega arith)
 same_front (a ∷ x) [] z l = absurd (omega arith)
 same_front (a ∷ x) (b ∷ y) z l = ap (λ t. eqb a b && t) (same_front x y z (omega arith))
 
-pub checked : (a b c d e f g h i j : ℕ)
-    → same (word_bytes (a ∷ b ∷ 0 ∷ 0 ∷ [])) (word_bytes (0xa6a6a6a6 ∷ 0xa6a6a6a6 ∷ 0 ∷ 0 ∷ []))
-    ≡ same (take 8 (word_bytes (a ∷ b ∷ c ∷ d ∷ e ∷ f ∷ g ∷ h ∷ i ∷ j ∷ []))) initial_value
+pub checked : (x : List ℕ) → length x ≡ 10
+    → same (word_bytes (get_or x 0 0 ∷ get_or x 1 0 ∷ 0 ∷ 0 ∷ [])) (word_bytes (0xa6a6a6a6 ∷ 0xa6a6a6a6 ∷ 0 ∷ 0 ∷ [])) ≡ same (take 8 (word_bytes x)) initial_value
 unfolding word_bytes initial_value be
-checked a b c d e f g h i j = same_front (word_bytes (a ∷ b ∷ [])) (word_bytes (0xa6a6a6a6 ∷ 0xa6a6a6a6 ∷ [])) (word_bytes (0 ∷ 0 ∷ [])) refl
+checked x l =
+    same_front (word_bytes (get_or x 0 0 ∷ get_or x 1 0 ∷ [])) (word_bytes (0xa6a6a6a6 ∷ 0xa6a6a6a6 ∷ [])) (word_bytes (0 ∷ 0 ∷ [])) refl
+    ∙ ap (λ (y : List ℕ). same (take 8 (word_bytes y)) initial_value) (sym (list_tab 10 x l))
 
 -- ---- steps
 
@@ -72,41 +73,58 @@ added v u n h =
     ap (xors (word_bytes (v ∷ u ∷ []))) e
     ∙ cc (xor_zero_r (b0 v), xor_zero_r (b1 v), xor_zero_r (b2 v), xor_zero_r (b3 v), x.at0, x.at1, x.at2, x.at3)
 
-pub stepped : (cipher : List ℕ → List ℕ) (n a b c d e f g h i j p q r s : ℕ) → n < 2 ^ 32 → word_bytes (p ∷ q ∷ r ∷ s ∷ []) ≡ cipher (word_bytes (a ∷ b ∷ c ∷ d ∷ []))
-    → word_bytes (p ∷ bit_xor q n ∷ e ∷ f ∷ g ∷ h ∷ i ∷ j ∷ r ∷ s ∷ []) ≡ wrap_step cipher n (word_bytes (a ∷ b ∷ c ∷ d ∷ e ∷ f ∷ g ∷ h ∷ i ∷ j ∷ []))
-unfolding wrap_step word_bytes
-stepped cipher n a b c d e f g h i j p q r s small y =
-    ap (λ (l : List ℕ). l ++ (word_bytes (e ∷ f ∷ g ∷ h ∷ i ∷ j ∷ []) ++ word_bytes (r ∷ s ∷ []))) (sym (added p q n small))
-    ∙ ap (λ (l : List ℕ). xors (take 8 l) (be 8 n) ++ (word_bytes (e ∷ f ∷ g ∷ h ∷ i ∷ j ∷ []) ++ drop 8 l)) y
+module _ (x : List ℕ) (l : length x ≡ 10) where
+  pub stepped : (cipher : List ℕ → List ℕ) (n p q r s : ℕ) → n < 2 ^ 32 → word_bytes (p ∷ q ∷ r ∷ s ∷ []) ≡ cipher (word_bytes (get_or x 0 0 ∷ get_or x 1 0 ∷ get_or x 2 0 ∷ get_or x 3 0 ∷ []))
+      → word_bytes (p ∷ bit_xor q n ∷ get_or x 4 0 ∷ get_or x 5 0 ∷ get_or x 6 0 ∷ get_or x 7 0 ∷ get_or x 8 0 ∷ get_or x 9 0 ∷ r ∷ s ∷ []) ≡ wrap_step cipher n (word_bytes x)
+  unfolding wrap_step word_bytes
+  stepped cipher n p q r s small y =
+      let kept = word_bytes (get_or x 4 0 ∷ get_or x 5 0 ∷ get_or x 6 0 ∷ get_or x 7 0 ∷ get_or x 8 0 ∷ get_or x 9 0 ∷ []) in
+      ap (λ (l : List ℕ). l ++ (kept ++ word_bytes (r ∷ s ∷ []))) (sym (added p q n small))
+      ∙ ap (λ (l : List ℕ). xors (take 8 l) (be 8 n) ++ (kept ++ drop 8 l)) y
+      ∙ ap (λ (l : List ℕ). wrap_step cipher n (word_bytes l)) (sym (list_tab 10 x l))
 
-pub stepped_back : (cipher : List ℕ → List ℕ) (n a b c d e f g h i j p q r s : ℕ) → n < 2 ^ 32 → word_bytes (p ∷ q ∷ r ∷ s ∷ []) ≡ cipher (word_bytes (a ∷ bit_xor b n ∷ i ∷ j ∷ []))
-    → word_bytes (p ∷ q ∷ r ∷ s ∷ c ∷ d ∷ e ∷ f ∷ g ∷ h ∷ []) ≡ unwrap_step cipher n (word_bytes (a ∷ b ∷ c ∷ d ∷ e ∷ f ∷ g ∷ h ∷ i ∷ j ∷ []))
-unfolding unwrap_step word_bytes
-stepped_back cipher n a b c d e f g h i j p q r s small y =
-    ap (λ (l : List ℕ). l ++ word_bytes (c ∷ d ∷ e ∷ f ∷ g ∷ h ∷ []))
-    (y ∙ ap (λ (l : List ℕ). cipher (l ++ word_bytes (i ∷ j ∷ []))) (sym (added a b n small)))
+  pub stepped_back : (cipher : List ℕ → List ℕ) (n p q r s : ℕ) → n < 2 ^ 32 → word_bytes (p ∷ q ∷ r ∷ s ∷ []) ≡ cipher (word_bytes (get_or x 0 0 ∷ bit_xor (get_or x 1 0) n ∷ get_or x 8 0 ∷ get_or x 9 0 ∷ []))
+      → word_bytes (p ∷ q ∷ r ∷ s ∷ get_or x 2 0 ∷ get_or x 3 0 ∷ get_or x 4 0 ∷ get_or x 5 0 ∷ get_or x 6 0 ∷ get_or x 7 0 ∷ []) ≡ unwrap_step cipher n (word_bytes x)
+  unfolding unwrap_step word_bytes
+  stepped_back cipher n p q r s small y =
+      ap (λ (l : List ℕ). l ++ word_bytes (get_or x 2 0 ∷ get_or x 3 0 ∷ get_or x 4 0 ∷ get_or x 5 0 ∷ get_or x 6 0 ∷ get_or x 7 0 ∷ []))
+      (y ∙ ap (λ (l : List ℕ). cipher (l ++ word_bytes (get_or x 8 0 ∷ get_or x 9 0 ∷ []))) (sym (added (get_or x 0 0) (get_or x 1 0) n small)))
+      ∙ ap (λ (l : List ℕ). unwrap_step cipher n (word_bytes l)) (sym (list_tab 10 x l))
 
 -- ---- writing
 
-pub stored-key : (c d e f g h i j : ℕ) (out : List ℕ) → length out ≡ 32
-    → placed (word_bytes (g ∷ h ∷ i ∷ j ∷ [])) 16 (placed (word_bytes (c ∷ d ∷ e ∷ f ∷ [])) 0 out) ≡ word_bytes (c ∷ d ∷ e ∷ f ∷ g ∷ h ∷ i ∷ j ∷ [])
-unfolding word_bytes
-stored-key c d e f g h i j out l =
-    let s = word_bytes (c ∷ d ∷ e ∷ f ∷ []) in
-    let t = word_bytes (g ∷ h ∷ i ∷ j ∷ []) in
-    placed-placed s t out 0 (omega arith) ∙ placed_all (s ++ t) out l
+-- One word more.
+pub word_stored : (w d l r : List ℕ) (i : ℕ) → i < length w → l ≡ paste d 0 (word_bytes w) (4 * i) → r ≡ placed (word_bytes (get_or w i 0 ∷ [])) (4 * i) l
+    → r ≡ paste d 0 (word_bytes w) (4 * (i + 1))
+word_stored w d l r i h e g =
+    let p = word_bytes (get_or w i 0 ∷ []) in
+    let n : length p ≡ 4 = length-word_bytes (get_or w i 0 ∷ []) in
+    let q : p ≡ take (length p) (drop (4 * i) (word_bytes w)) = sym (word_bytes-at w i h) ∙ ap (λ (j : ℕ). take j (drop (4 * i) (word_bytes w))) (sym n) in
+    let z : 4 * i ≡ 0 + 4 * i = omega arith in
+    let j : 4 * i + length p ≡ 4 * (i + 1) = omega arith in
+    g ∙ ap₂ (placed p) z e ∙ placed-next (word_bytes w) d p 0 (4 * i) (omega arith) (omega (arith, length-word_bytes w)) q ∙ ap (paste d 0 (word_bytes w)) j
 
-pub stored : (a b c d e f g h i j : ℕ) (out : List ℕ) → length out ≡ 40
-    → placed (word_bytes (g ∷ h ∷ i ∷ j ∷ [])) 24 (placed (word_bytes (e ∷ f ∷ g ∷ h ∷ [])) 16 (placed (word_bytes (a ∷ b ∷ c ∷ d ∷ [])) 0 out))
-    ≡ word_bytes (a ∷ b ∷ c ∷ d ∷ e ∷ f ∷ g ∷ h ∷ i ∷ j ∷ [])
+pub words_stored : (w d : List ℕ) (n : ℕ) → length d ≡ 4 * length w → n ≡ length w → paste d 0 (word_bytes w) (4 * n) ≡ word_bytes w
+words_stored w d n l e =
+    let b = word_bytes w in
+    let f : 4 * n ≡ length b = omega (arith, length-word_bytes w) in
+    let g : drop (0 + length b) d ≡ [] = drop_all (0 + length b) d (omega (arith, length-word_bytes w)) in
+    ap (paste d 0 b) f ∙ ap₂ (λ (x y : List ℕ). x ++ y) (take-length b) g ∙ append-nil b
+
+pub key_stored : (x : List ℕ) → length x ≡ 10 → word_bytes (take 8 (drop 2 x)) ≡ drop 8 (word_bytes x)
 unfolding word_bytes
-stored a b c d e f g h i j out l =
-    let s = word_bytes (a ∷ b ∷ c ∷ d ∷ []) in
-    let t = word_bytes (e ∷ f ∷ g ∷ h ∷ []) in
-    let o = s ++ drop 16 out in
-    let m : length (drop 32 o) ≡ 8 = rw (length-drop 32 o, length-append s (drop 16 out), length-drop 16 out) (omega arith) in
-    let z : drop 8 (drop 32 o) ≡ [] = drop_all 8 (drop 32 o) (omega arith) in
-    ap (λ (x : List ℕ). (word_bytes (a ∷ b ∷ c ∷ d ∷ e ∷ f ∷ []) ++ word_bytes (g ∷ h ∷ i ∷ j ∷ [])) ++ x) z
+key_stored x l = rw (list_tab 10 x l)
+
+-- ---- the registers after all steps back
+
+module _ (d : List ℕ → List ℕ) (c x : List ℕ) (e : x ≡ unwrapped d c) where
+  pub good_value : good d c ≡ true → take 8 x ≡ initial_value
+  unfolding good
+  good_value g = ap (take 8) e ∙ same_eq (take 8 (unwrapped d c)) initial_value g
+
+  pub plain_value : drop 8 x ≡ plain d c
+  unfolding plain
+  plain_value = ap (drop 8) e
 
 -- ---- under an expanded key
 
@@ -114,10 +132,9 @@ module _ (kek w : List ℕ) (h : w ≡ key_expansion 8 kek ++ []) where
   pub wrapped_under : (key : List ℕ) → wrap (cipher 14 w) key ≡ wrap (aes 8 kek) key
   wrapped_under key = ap (λ (e : List ℕ → List ℕ). wrap e key) (under_key kek w h)
 
+  pub unwrapped_under : (s : List ℕ) → unwrapped (inv_cipher 14 w) s ≡ unwrapped (inverse_aes 8 kek) s
+  unwrapped_under s = ap (λ (d : List ℕ → List ℕ). unwrapped d s) (inverse_under_key kek w h)
+
   pub good_under_lem : (s x : List ℕ) → x ≡ unwrapped (inv_cipher 14 w) s → same (take 8 x) initial_value ≡ good (inverse_aes 8 kek) s
   unfolding good
-  good_under_lem s x e = ap (λ (l : List ℕ). same (take 8 l) initial_value) (e ∙ ap (λ (d : List ℕ → List ℕ). unwrapped d s) (inverse_under_key kek w h))
-
-  pub plain_under_lem : (s x : List ℕ) → x ≡ unwrapped (inv_cipher 14 w) s → drop 8 x ≡ plain (inverse_aes 8 kek) s
-  unfolding plain
-  plain_under_lem s x e = ap (drop 8) (e ∙ ap (λ (d : List ℕ → List ℕ). unwrapped d s) (inverse_under_key kek w h))
+  good_under_lem s x e = ap (λ (l : List ℕ). same (take 8 l) initial_value) (e ∙ unwrapped_under s)

@@ -2,4 +2,3 @@ pub mod KeyWrap
 pub mod Calls
 pub mod Rules
 pub mod Statements
-pub mod RegisterBytes

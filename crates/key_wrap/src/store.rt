@@ -1,83 +1,27 @@
 // Registers as bytes in a buffer.
-ghost use Rattle.std.specs.Prelude.{◌≡◌, ◌+◌, ◌≤◌, length, take, drop};
-ghost use Rattle.octets.specs.Bytes.{placed};
-ghost use Rattle.aes.specs.Blocks.{state};
+ghost use Rattle.std.specs.Prelude.{◌≡◌, ◌*◌, length, take, drop};
+ghost use Rattle.octets.specs.Words.{word_bytes};
 ghost use Rattle.key_wrap.specs.KeyWrap.{initial_value};
-ghost use Rattle.key_wrap.specs.RegisterBytes.{bytes};
 
 use crate::registers::Registers;
-use aes::block::{Block, to_bytes};
-use octets::slice::copy_at;
+use octets::word::put_word;
 
-fn store_block(x: Block, out: &mut [u8], at: usize)
-    requires { at + 16 ≤ length out.old }
-    ensures { out.new ≡ placed (state x) at out.old }
+// The bytes of words.
+// Kept: `hashing::words::write_words` does this at any place; docs/PROMISES.md names it there, and this crate does not stand on `hashing`.
+pub fn store(words: &[u32], out: &mut [u8])
+    requires { length out.old ≡ 4 * length words.now }
+    ensures { out.new ≡ word_bytes words.now }
 {
-    let b = to_bytes(x);
-    copy_at(&b, out, at);
-}
-
-// All registers.
-pub fn store(x: Registers, out: &mut [u8])
-    requires { length out.old ≡ 40 }
-    ensures { out.new ≡ bytes x }
-{
-    store_block(
-        Block {
-            a: x.a,
-            b: x.b,
-            c: x.c,
-            d: x.d,
-        },
-        out,
-        0,
-    );
-    store_block(
-        Block {
-            a: x.e,
-            b: x.f,
-            c: x.g,
-            d: x.h,
-        },
-        out,
-        16,
-    );
-    store_block(
-        Block {
-            a: x.g,
-            b: x.h,
-            c: x.i,
-            d: x.j,
-        },
-        out,
-        24,
-    );
+    for (i, word) in words.iter().enumerate() {
+        put_word(*word, out, 4 * i);
+    }
 }
 
 // The key, once the check value has been found right.
-pub fn store_key(x: Registers, out: &mut [u8])
+pub fn store_key(x: &Registers, out: &mut [u8])
     requires out_len { length out.old ≡ 32 }
-    requires x_value { take 8 (bytes x) ≡ initial_value }
-    ensures { out.new ≡ drop 8 (bytes x) }
+    requires x_value { take 8 (word_bytes x.now) ≡ initial_value }
+    ensures { out.new ≡ drop 8 (word_bytes x.now) }
 {
-    store_block(
-        Block {
-            a: x.c,
-            b: x.d,
-            c: x.e,
-            d: x.f,
-        },
-        out,
-        0,
-    );
-    store_block(
-        Block {
-            a: x.g,
-            b: x.h,
-            c: x.i,
-            d: x.j,
-        },
-        out,
-        16,
-    );
+    store(&x[2..], out);
 }

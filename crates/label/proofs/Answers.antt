@@ -9,14 +9,14 @@ use lib.Dec.{eqb}
 use lib.ListN.{length}
 use borrow.Author.Tests.{eq-eqb, ne_eqb}
 use Rattle.octets.specs.Bytes.{same}
-use Rattle.octets.specs.Rows.{done, refused, refused_at}
+use Rattle.octets.specs.Rows.{done, refused}
 use Rattle.octets.proofs.Rows.{first_answers, none_answers}
 use Rattle.threshold.specs.Threshold.{threshold_right}
 use Rattle.hmac.specs.Hmac.{hmac_sha256}
-use Rattle.label_spec.specs.Label.{raw_key_size, hs256, combo_number, Reading, reading, said, is_eight, is_threshold, three_parts, segments_right, broken_segment, row13, unreadable, open_label_rows, open_label}
+use Rattle.label_spec.specs.Label.{raw_key_size, hs256, combo_number, Reading, reading, said, is_eight, is_threshold, three_parts, segments_right, row13, unreadable, open_label_rows, open_label}
 use Rattle.label_spec.proofs.Broken.{unbroken}
-use Rattle.utf8.proofs.Options.{never}
-use Rattle.label.specs.Says.{threshold_in}
+use Rattle.std.proofs.Common.{Some}
+use Rattle.label.specs.Says.{NumberIs, threshold_in}
 
 -- No number stands for one that is no threshold, since 0 is none.
 no_threshold : (n : Bool × ℕ) → threshold_in n ≡ 0 → is_threshold n ≡ false
@@ -27,8 +27,8 @@ no_threshold n e = go (is_threshold n) refl e
     go true p e = ap (λ (k : ℕ). is_threshold (n.0, k)) e ∙ and-false (not n.0)
     go false p e = p
 
-a_threshold : (n : Bool × ℕ) → (threshold_in n ≡ 0 → ⊥) → (is_threshold n ≡ true) × (threshold_in n ≡ n.1)
-a_threshold n h = go (is_threshold n) refl h
+some_threshold : (n : Bool × ℕ) → (threshold_in n ≡ 0 → ⊥) → (is_threshold n ≡ true) × (threshold_in n ≡ n.1)
+some_threshold n h = go (is_threshold n) refl h
   where
     go : (x : Bool) → is_threshold n ≡ x → (cond x n.1 0 ≡ 0 → ⊥) → (is_threshold n ≡ true) × (cond x n.1 0 ≡ n.1)
     go true p h = (p, refl)
@@ -56,25 +56,9 @@ module _ (key l : List ℕ) where
     unfolding open_label open_label_rows
     row_13 e = sym (first_answers (open_label_rows key l) (done returned) 1 (key_right, rw e))
 
-    wrong : segments_right l ≡ false → unreadable l ≡ open_label key l
+    pub wrong : segments_right l ≡ false → unreadable l ≡ open_label key l
     unfolding reading
     wrong e = row_13 (rw e)
-
-    -- The size or the dots are wrong.
-    pub no_parts : three_parts l ≡ false → refused 13 ≡ open_label key l
-    unfolding segments_right unreadable
-    no_parts e = (let z : unreadable l ≡ refused 13 = rw e in sym z) ∙ wrong (rw e)
-
-    -- They are right, and a segment is broken at p.
-    pub broken-at : (p : ℕ) → (three_parts l ≡ true) × (broken_segment l ≡ some p) → refused_at 13 p ≡ open_label key l
-    unfolding unreadable
-    broken-at p k =
-        let z : unreadable l ≡ refused_at 13 p = rw (k.0, k.1) in
-        sym z ∙ wrong (go (segments_right l) refl)
-      where
-        go : (b : Bool) → segments_right l ≡ b → b ≡ false
-        go true e = never (sym (unbroken l e) ∙ k.1)
-        go false e = refl
 
     -- The segments are right, and nothing is said.
     pub unread : segments_right l ≡ true → reading l ≡ none → refused 13 ≡ open_label key l
@@ -107,21 +91,21 @@ module _ (key l : List ℕ) where
             unfolding open_label open_label_rows
             row_17 c = sym (first_answers (open_label_rows key l) (done returned) 5 (key_right, (rw e, (rw (said_is, a), (rw (said_is, s), (rw (said_is, f), rw (said_is, c)))))))
 
-            module _ (c : combo_number q.combo ≡ 0 → ⊥) where
+            module _ (n : ℕ) (c : NumberIs (Some n) (combo_number q.combo)) where
               no_17 : eqb (combo_number q.combo) 0 ≡ false
-              no_17 = ne_eqb (combo_number q.combo) 0 c
+              no_17 = ne_eqb (combo_number q.combo) 0 c.1
 
               pub row_18 : threshold_in q.threshold ≡ 0 → refused 18 ≡ open_label key l
               unfolding open_label open_label_rows
               row_18 t =
                   sym (first_answers (open_label_rows key l) (done returned) 6 (key_right, (rw e, (rw (said_is, a), (rw (said_is, s), (rw (said_is, f), (rw (said_is, no_17), rw (said_is, no_threshold q.threshold t))))))))
 
-              pub opened : (threshold_in q.threshold ≡ 0 → ⊥) → (n m : ℕ) → n ≡ combo_number q.combo → m ≡ threshold_in q.threshold → done (n ∷ m ∷ []) ≡ open_label key l
+              pub opened : (m : ℕ) → NumberIs (Some m) (threshold_in q.threshold) → done (n ∷ m ∷ []) ≡ open_label key l
               unfolding open_label open_label_rows
-              opened t n m x y =
-                  let h = a_threshold q.threshold t in
-                  let z : combo_number (said l).combo ≡ n = ap (λ (r : Reading). combo_number r.combo) said_is ∙ sym x in
-                  let w : (said l).threshold.1 ≡ m = ap (λ (r : Reading). r.threshold.1) said_is ∙ sym h.1 ∙ sym y in
+              opened m t =
+                  let h = some_threshold q.threshold t.1 in
+                  let z : combo_number (said l).combo ≡ n = ap (λ (r : Reading). combo_number r.combo) said_is ∙ c.0 in
+                  let w : (said l).threshold.1 ≡ m = ap (λ (r : Reading). r.threshold.1) said_is ∙ sym h.1 ∙ t.0 in
                   sym
                   (none_answers (open_label_rows key l) (done returned) (key_right, (rw e, (rw (said_is, a), (rw (said_is, s), (rw (said_is, f), (rw (said_is, no_17), (rw (said_is, h.0), tt)))))))
                   ∙ ap₂ (λ (i j : ℕ). done (i ∷ j ∷ [])) z w)

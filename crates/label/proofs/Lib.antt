@@ -6,3 +6,4 @@ pub mod Broken
 pub mod Decoding
 pub mod Readings
 pub mod Answers
+pub mod Returned

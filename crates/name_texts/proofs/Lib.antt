@@ -1,3 +1,4 @@
 pub mod Placing
 pub mod Measured
 pub mod Stems
+pub mod Opening

@@ -1,21 +1,22 @@
 -- A full name's stem and end, as the code looks at them: limits, what leads, and where the text is broken.
 -- Assumes nothing.
-use Prim.Native.Nat.{ℕ, suc, ◌+◌, ◌-◌, ◌*◌, ◌/◌, ◌≤◌, ◌<◌}
+use Prim.Native.Nat.{ℕ, zero, suc, ◌+◌, ◌-◌, ◌*◌, ◌/◌, ◌≤◌, ◌<◌, min}
 use mathlib.Core.Path.{◌≡◌, refl, sym, ap, ◌∙◌, subst}
 use mathlib.Core.Bool.{true, false, ◌&&◌}
 use mathlib.Core.List.{List, [], ◌∷◌}
 use native.Mathlib.Omega.{arith}
 use lib.Dec.{leb}
-use lib.ListN.{length, take, drop, get_or}
-use lib.Seq.{drop-cons, get_or-drop}
+use lib.ListN.{length, take, drop, get_or, length-drop}
+use lib.Seq.{get_or-drop}
 use borrow.Author.Tests.{eq-eqb, ne_eqb, le-leb, lt-leb, leb-true}
 use Rattle.octets.proofs.Equality.{iff, and_true, true_and}
-use Rattle.octets.proofs.Lists.{drop_all}
+use Rattle.octets.proofs.Lists.{part-rest}
 use Rattle.encoding.specs.Base64url.{alphabet, place, value, accepted, decoded, encoded_length}
 use Rattle.encoding.specs.Broken.{within, stop_from, stop}
 use Rattle.encoding.specs.Leading.{Leading, before}
 use Rattle.encoding.proofs.Leading.{leading_part, stop-inside, stop-limit, same_stop}
 use Rattle.name_spec.specs.Names.{name_limit, iv_size, full_end}
+use Rattle.name_spec.proofs.Broken.{common-inside}
 use Rattle.name_spec.specs.Places.{common, stem_allows, text_broken_at}
 
 -- ---- limits
@@ -75,27 +76,16 @@ module _ (limit : ℕ) (t : List ℕ) where
 
 -- ---- what a text and an end have in common
 
-common-nil : (t : List ℕ) → common t [] ≡ 0
+-- r characters are alike, and behind them either ends, or the next two differ.
+pub common_is : (t e : List ℕ) (r : ℕ) → r ≤ length t → r ≤ length e → ((k : ℕ) → k < r → get_or t k 0 ≡ get_or e k 0)
+    → (r < length t → r < length e → get_or t r 0 ≡ get_or e r 0 → ⊥) → r ≡ common t e
 unfolding common
-common-nil [] = refl
-common-nil (c ∷ t) = refl
-
-module _ (t e : List ℕ) (i : ℕ) where
-  pub end_over : length e ≤ i → common (drop i t) (drop i e) ≡ 0
-  end_over h = ap (common (drop i t)) (drop_all i e h) ∙ common-nil (drop i t)
-
-  pub text_over : length t ≤ i → common (drop i t) (drop i e) ≡ 0
-  unfolding common
-  text_over h = rw (drop_all i t h)
-
-  module _ (h : i < length t) (k : i < length e) where
-    pub other : (get_or t i 0 ≡ get_or e i 0 → ⊥) → common (drop i t) (drop i e) ≡ 0
-    unfolding common
-    other n = rw (drop-cons t i 0 h, drop-cons e i 0 k, ne_eqb (get_or t i 0) (get_or e i 0) n)
-
-    pub alike : get_or t i 0 ≡ get_or e i 0 → common (drop i t) (drop i e) ≡ suc (common (drop (i + 1) t) (drop (i + 1) e))
-    unfolding common
-    alike q = let z : i + 1 ≡ suc i = omega arith in rw (drop-cons t i 0 h, drop-cons e i 0 k, eq-eqb (get_or t i 0) (get_or e i 0) q, z)
+common_is [] e r h k a n = omega arith
+common_is (c ∷ t) [] r h k a n = omega arith
+common_is (c ∷ t) (d ∷ e) zero h k a n = rw (ne_eqb c d (n (omega arith) (omega arith)))
+common_is (c ∷ t) (d ∷ e) (suc r) h k a n =
+    let q = common_is t e r (omega arith) (omega arith) (λ i l. a (suc i) (omega arith)) (λ l m. n (omega arith) (omega arith)) in
+    rw (eq-eqb c d (a 0 (omega arith)), ← q)
 
 -- ---- the place
 
@@ -109,15 +99,33 @@ module _ (most limit : ℕ) (limits : Limits most limit) (t : List ℕ) (n : ℕ
   unfolding stop
   walk_inside = omega (arith, stop-inside true 17 (stem_allows most) 0 0 t)
 
-  module _ (j : ℕ) (e : j ≡ stop true 17 (stem_allows most) t) where
+  -- The walk from the lesser of n and whole groups of the longest stem stops at j.
+  module _ (from j : ℕ) (a : from ≡ min n (limit / 3 * 4)) (e : j ≡ stop_from true 17 (λ m. leb m limit) from (before t from) (drop from t)) where
+    stopped : j ≡ stop true 17 (stem_allows most) t
+    stopped = e ∙ walked from (omega arith) (omega arith)
+
+    pub inside : j ≤ length t
+    inside = omega (arith, stopped, walk_inside)
+
+    pub leads : (k : ℕ) → k ≡ min n j → Leading k (take j t)
+    leads k m = leading_part t n j l inside k (λ h. omega arith) (λ h. omega arith)
+
     same-within : (s : List ℕ) → within true 17 (stem_allows most) s ≡ within true 17 (λ m. leb m limit) s
     unfolding within
     same-within s = rw (← limits (length (decoded true s)))
 
-    pub in_stem : within true 17 (λ m. leb m limit) (take j t) ≡ false → j ≡ text_broken_at most t
+    pub in_stem : false ≡ within true 17 (λ m. leb m limit) (take j t) → j ≡ text_broken_at most t
     unfolding text_broken_at
-    in_stem f = rw (← e, same-within (take j t), f)
+    in_stem f = rw (← stopped, same-within (take j t), ← f)
 
-    pub at-end : within true 17 (λ m. leb m limit) (take j t) ≡ true → j + common (drop j t) full_end ≡ text_broken_at most t
-    unfolding text_broken_at
-    at-end f = rw (← e, same-within (take j t), f)
+    -- Behind a whole stem, k characters are those of the end.
+    module _ (k : ℕ) (b : k ≡ common (take (length t - j) (drop j t)) full_end) where
+      behind : k ≡ common (drop j t) full_end
+      behind = b ∙ ap (λ (s : List ℕ). common s full_end) (part-rest t (length t) j refl)
+
+      pub end_inside : j + k ≤ length t
+      end_inside = omega (arith, behind, inside, common-inside (drop j t) full_end, length-drop j t)
+
+      pub at-end : true ≡ within true 17 (λ m. leb m limit) (take j t) → j + k ≡ text_broken_at most t
+      unfolding text_broken_at
+      at-end f = rw (← stopped, same-within (take j t), ← f, behind)

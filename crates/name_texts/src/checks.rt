@@ -10,27 +10,13 @@ pub const ID_LIMIT: usize = 36;
 // The most bytes of a name.
 pub const NAME_LIMIT: usize = 1020;
 
-// Is each byte below 128?
-fn ascii(s: &[u8]) -> bool
-    ensures { result ≡ spec.ascii s.now }
-{
-    let mut i = 0;
-    while i < s.len() {
-        if 128 <= s[i] {
-            return false;
-        }
-        i += 1;
-    }
-    true
-}
-
 pub fn id_right(id: &[u8]) -> bool
     ensures { result ≡ spec.id_right id.now }
 {
     if ID_LIMIT < id.len() {
         return false;
     }
-    ascii(id)
+    id.is_ascii()
 }
 
 pub fn name_right(name: &[u8]) -> bool

@@ -11,14 +11,16 @@ use encoding::base32;
 use octets::slice::copy_at;
 use sha1_hash::digest;
 
+// Kept: the clause `mac_value`, here and below, and no type of both keys: see `keyed::seal_under`.
 // The characters of the hash of a directory ID. The ID is sealed with no associated data.
 fn id_hash(enc: &[u8], mac: &[u8], id: &[u8]) -> [u8; 32]
     requires mac_value { master_keys_right enc.now mac.now ≡ true }
     requires id_len_bound { length id.now ≤ spec.id_limit }
     ensures { result ≡ spec.id_hash enc.now mac.now id.now }
 {
+    // Kept: a buffer of the greatest size and the length beside it: no heap.
     let mut sealed = [0u8; ID_LIMIT + 16];
-    seal_under(enc, mac, false, id, id, &mut sealed);
+    seal_under(enc, mac, None, id, &mut sealed);
     let n = id.len() + 16;
     let mut text = [0u8; 32];
     base32::encode(&digest(&sealed[..n]), &mut text);

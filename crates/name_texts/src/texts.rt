@@ -9,9 +9,9 @@ ghost use Rattle.name_spec.specs.Calls.{hash_length, open_text};
 
 use crate::checks::NAME_LIMIT;
 use crate::keyed::{open_under, seal_under};
-use answer::{Answer, Refusal};
+use answer::Refusal;
 use encoding::base64url;
-use octets::slice::{copy_at, equal};
+use octets::slice::copy_at;
 use sha1_hash::digest;
 use utf8::proper_text;
 
@@ -23,14 +23,16 @@ pub fn full_length(n: usize) -> usize
     base64url::encoded_length(n + 16, true) + 4
 }
 
+// Kept: the clause `mac_value`, here and below, and no type of both keys: see `keyed::seal_under`.
 // Writes the full name to the front of out.
 pub fn write_full(enc: &[u8], mac: &[u8], id: &[u8], name: &[u8], out: &mut [u8])
     requires mac_value { master_keys_right enc.now mac.now ≡ true }
     requires name_len_bound { (length name.now ≤ spec.name_limit) × (spec.full_length (length name.now) ≤ length out.old) }
     ensures { out.new ≡ placed (spec.full_name enc.now mac.now id.now name.now) 0 out.old }
 {
+    // Kept: a buffer of the greatest size and the length beside it: no heap.
     let mut sealed = [0u8; NAME_LIMIT + 16];
-    seal_under(enc, mac, true, id, name, &mut sealed);
+    seal_under(enc, mac, Some(id), name, &mut sealed);
     let m = name.len() + 16;
     base64url::encode(&sealed[..m], true, out);
     copy_at(b".c9r", out, base64url::encoded_length(m, true));
@@ -51,27 +53,35 @@ pub fn is_hash(stored: &[u8], full: &[u8]) -> bool
 {
     let mut hash = [0u8; 32];
     write_hash(full, &mut hash);
-    equal(stored, &hash)
+    stored == hash.as_slice()
 }
 
 // Opens a text in the form of a full name, of a name of n bytes. The name goes to the front of out only where the synthetic IV matches and it is proper
 // text. Rows 12, 3.
-pub fn open_text(enc: &[u8], mac: &[u8], id: &[u8], text: &[u8], n: usize, out: &mut [u8]) -> Answer
+pub fn open_text(
+    enc: &[u8],
+    mac: &[u8],
+    id: &[u8],
+    text: &[u8],
+    n: usize,
+    out: &mut [u8],
+) -> Result<usize, Refusal>
     requires mac_value { master_keys_right enc.now mac.now ≡ true }
     requires text_value { (spec.text_right text.now ≡ true) × (n ≡ spec.name_length text.now) × (n ≤ length out.old) }
     ensures { ended (meaning result) out.new ≡ open_text enc.now mac.now id.now text.now out.old }
 {
     let k = text.len() - 4;
+    // Kept: a buffer of the greatest size and the length beside it: no heap.
     let mut sealed = [0u8; NAME_LIMIT + 16];
     base64url::decode(&text[..k], true, &mut sealed);
     let m = n + 16;
     let mut name = [0u8; NAME_LIMIT];
     if !open_under(enc, mac, id, &sealed[..m], &mut name) {
-        return Answer::Refused(Refusal::SyntheticIv);
+        return Err(Refusal::SyntheticIv);
     }
     if !proper_text(&name[..n]) {
-        return Answer::Refused(Refusal::Name);
+        return Err(Refusal::Name);
     }
     copy_at(&name[..n], out, 0);
-    Answer::Done(n)
+    Ok(n)
 }

@@ -2,6 +2,7 @@
 // Each takes any bytes, and a refusal changes none.
 #![tactic(auto)]
 
+mod head;
 pub mod opener;
 pub mod path;
 pub mod writer;

@@ -4,23 +4,21 @@ ghost use Rattle.octets.specs.Rows.{ended};
 ghost use Rattle.answer.specs.Meaning.{meaning};
 ghost use Rattle.names.specs.ByRecord.{dir_path};
 
-use answer::{Answer, Refusal};
+use answer::Refusal;
 use name_texts::checks::id_right;
 use name_texts::path::write_path;
 use vault::record::Vault;
 
 /// Writes the path of the directory with this ID, 36 characters. Rows 2, 7.
-pub fn dir_path(v: Vault, dir_id: &[u8], out: &mut [u8]) -> Answer
+pub fn dir_path(v: Vault, dir_id: &[u8], out: &mut [u8]) -> Result<usize, Refusal>
     ensures { ended (meaning result) out.new ≡ dir_path v dir_id.now out.old }
 {
     if !id_right(dir_id) {
-        return Answer::Refused(Refusal::DirectoryId);
+        return Err(Refusal::DirectoryId);
     }
     if out.len() < 36 {
-        return Answer::Refused(Refusal::Room);
+        return Err(Refusal::Room);
     }
-    let enc = v.enc;
-    let mac = v.mac;
-    write_path(&enc, &mac, dir_id, out);
-    Answer::Done(36)
+    write_path(&v.enc, &v.mac, dir_id, out);
+    Ok(36)
 }

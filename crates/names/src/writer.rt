@@ -4,10 +4,10 @@ ghost use Rattle.answer.specs.Meaning.{name_meaning};
 ghost use Rattle.name_spec.specs.Calls.{name_ended};
 ghost use Rattle.names.specs.ByRecord.{write_name};
 
-use answer::{NameAnswer, Refusal};
-use name_texts::checks::{id_right, name_right, short};
+use crate::head::look_at;
+use answer::{Refusal, StoredName};
+use name_texts::checks::{name_right, short};
 use name_texts::texts::{full_length, write_full, write_hash};
-use threshold::threshold_right;
 use vault::record::Vault;
 
 /// Writes what is stored for the name in the directory with this ID, and for a shortened name its full name to the second buffer.
@@ -18,36 +18,29 @@ pub fn write_name(
     name: &[u8],
     stored: &mut [u8],
     full: &mut [u8],
-) -> NameAnswer
+) -> Result<StoredName, Refusal>
     ensures { name_ended (name_meaning result) stored.new full.new ≡ write_name v dir_id.now name.now stored.old full.old }
 {
     let threshold = v.threshold;
-    if !threshold_right(threshold as u32) {
-        return NameAnswer::Refused(Refusal::Threshold);
-    }
-    if !id_right(dir_id) {
-        return NameAnswer::Refused(Refusal::DirectoryId);
-    }
+    look_at(threshold, dir_id)?;
     if !name_right(name) {
-        return NameAnswer::Refused(Refusal::Name);
+        return Err(Refusal::Name);
     }
-    let enc = v.enc;
-    let mac = v.mac;
     let n = full_length(name.len());
     if short(threshold, n) {
         if stored.len() < n {
-            return NameAnswer::Refused(Refusal::Room);
+            return Err(Refusal::Room);
         }
-        write_full(&enc, &mac, dir_id, name, stored);
-        return NameAnswer::Plain(n);
+        write_full(&v.enc, &v.mac, dir_id, name, stored);
+        return Ok(StoredName::Plain(n));
     }
     if stored.len() < 32 {
-        return NameAnswer::Refused(Refusal::Room);
+        return Err(Refusal::Room);
     }
     if full.len() < n {
-        return NameAnswer::Refused(Refusal::Room);
+        return Err(Refusal::Room);
     }
-    write_full(&enc, &mac, dir_id, name, full);
+    write_full(&v.enc, &v.mac, dir_id, name, full);
     write_hash(&full[..n], stored);
-    NameAnswer::Shortened(32, n)
+    Ok(StoredName::Shortened(32, n))
 }

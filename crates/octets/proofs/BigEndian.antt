@@ -4,12 +4,13 @@ use Prim.Native.Nat.{ℕ, zero, suc, ◌+◌, ◌*◌, ◌/◌, ◌%◌, ◌^◌
 use mathlib.Core.Path.{◌≡◌, refl, sym, ◌∙◌, ap, ap₂}
 use mathlib.Core.List.{List, [], ◌∷◌, ◌++◌, append_assoc, append-nil}
 use native.Mathlib.Omega.{arith}
-use native.Mathlib.Nat.{div-div-eq-div-mul, mod-eq_of_lt, mul_assoc, add-zero, pow-suc, mod-one, zero-lt-suc, mod-lt, mul-add-div_right, mul-add-mod_self_right, one-le-pow}
+use native.Mathlib.Nat.{div-div-eq-div-mul, mod-eq_of_lt, mul_comm, mul_assoc, add-zero, pow-suc, mod-one, zero-lt-suc, mod-lt, mul-add-div_right, mul-add-mod_self_right, one-le-pow}
 use lib.Pow.{pow_pos}
 use lib.Arith.{mod-mul, digits_div, digits_mod}
 use lib.ListN.{length, length-append}
+use Rattle.std.specs.Int.{w64, byte_at, bytes_high_first, from_be_bytes}
 use Rattle.octets.specs.Bytes.{Bytes}
-use Rattle.octets.specs.Words.{word_at, b0, b1, b2, b3, word_bytes}
+use Rattle.octets.specs.Words.{b0, b1, b2, b3, word_bytes}
 use Rattle.octets.proofs.Words.{parts}
 use Rattle.octets.proofs.Bytes.{below_drop, bytes-be}
 use Rattle.octets.specs.BigEndian.{int_from, int, be}
@@ -104,15 +105,23 @@ pub be_four : (n : ℕ) → n < 2 ^ 32 → be 4 n ≡ word_bytes (n ∷ [])
 unfolding be
 be_four n h = be-word 0 n ∙ ap (λ (x : ℕ). word_bytes (x ∷ [])) (mod-eq_of_lt h)
 
--- The eight bytes of a number, by its two words.
-pub be_eight : (n : ℕ) → n < 2 ^ 64 → word_bytes (n / 2 ^ 32 ∷ n % 2 ^ 32 ∷ []) ≡ be 8 n
-unfolding word_bytes
-be_eight n h =
-    let k : n / 2 ^ 32 < 2 ^ 32 = omega arith in
-    sym (be-word 4 n ∙ ap (λ (x : List ℕ). x ++ word_bytes (n % 2 ^ 32 ∷ [])) (be_four (n / 2 ^ 32) k))
+byte_up : (k n : ℕ) → byte_at k (n / 256) ≡ byte_at (suc k) n
+byte_up zero n = omega arith
+byte_up (suc k) n =
+    let e : 256 * 256 ^ suc k ≡ 256 ^ suc (suc k) = mul_comm 256 (256 ^ suc k) ∙ sym (pow-suc 256 (suc k)) in
+    ap (λ (x : ℕ). x % 256) (div-div-eq-div-mul n 256 (256 ^ suc k) ∙ ap (λ (m : ℕ). n / m) e)
 
--- The number of eight bytes, by their two words.
-pub int_eight : (s : List ℕ) → length s ≡ 8 → word_at s 0 * 2 ^ 32 + word_at s 4 ≡ int s
+-- What the library's `to_be_bytes` gives.
+pub be_bytes : (k n : ℕ) → bytes_high_first k n ≡ be k n
+unfolding be
+be_bytes zero n = refl
+be_bytes (suc zero) n = refl
+be_bytes (suc (suc k)) n =
+    ap₂ (λ (x : ℕ) (l : List ℕ). x ∷ l) (sym (byte_up k n)) (be_bytes (suc k) n ∙ ap (λ (l : List ℕ). l ++ (n % 256 ∷ [])) (sym (be_bytes k (n / 256))))
+    ∙ ap (λ (l : List ℕ). l ++ (n % 256 ∷ [])) (be_bytes (suc k) (n / 256))
+
+-- The number of eight bytes.
+pub int_eight : (s : List ℕ) → length s ≡ 8 → from_be_bytes w64 s ≡ int s
 unfolding int int_from
 int_eight [] l = absurd (omega (arith, l))
 int_eight (a ∷ []) l = absurd (omega (arith, l))

@@ -1,11 +1,12 @@
 -- The test of equality says that two byte strings are equal, exactly.
 -- Assumes nothing.
 use Prim.Native.Nat.{ℕ}
-use mathlib.Core.Path.{◌≡◌, refl, sym, ap₂}
+use mathlib.Core.Path.{◌≡◌, refl, sym, ap, ap₂}
 use mathlib.Core.Bool.{Bool, true, false, ◌&&◌}
 use mathlib.Core.List.{List, [], ◌∷◌}
 use native.Mathlib.Omega.{arith}
 use lib.Dec.{eqb}
+use lib.Pointwise.{pointwise}
 use borrow.Author.Tests.{eq-eqb, eqb-true}
 use Rattle.octets.specs.Bytes.{same}
 
@@ -47,3 +48,11 @@ same_not s t f = go (same s t) refl
     go : (b : Bool) → same s t ≡ b → same s t ≡ false
     go true e = absurd (f (same_eq s t e))
     go false e = e
+
+-- What `==` answers at two byte strings.
+pub pointwise_same : (s t : List ℕ) → pointwise eqb s t ≡ same s t
+unfolding same
+pointwise_same [] [] = refl
+pointwise_same [] (b ∷ t) = refl
+pointwise_same (a ∷ s) [] = refl
+pointwise_same (a ∷ s) (b ∷ t) = ap (λ (x : Bool). eqb a b && x) (pointwise_same s t)

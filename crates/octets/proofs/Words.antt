@@ -7,6 +7,7 @@ use native.Mathlib.Nat.{div-div-eq-div-mul, not-suc-le-zero, le_of_suc-le-suc}
 use native.Mathlib.Omega.{arith}
 use lib.ListN.{length, take, drop, get_or}
 use lib.Bits.{bit_xor, xor_shr, xor_mod}
+use Rattle.std.specs.Int.{w32, to_be_bytes}
 use Rattle.octets.specs.Words.{word, b0, b1, b2, b3, HasBytes, word_bytes}
 
 -- A word that is put together of bytes has those bytes.
@@ -59,3 +60,8 @@ word_bytes-at (w ∷ ws) zero h = refl
 word_bytes-at (w ∷ ws) (suc i) h =
     let e : 4 * suc i ≡ suc (suc (suc (suc (4 * i)))) = omega arith in
     rw e (word_bytes-at ws i (le_of_suc-le-suc h))
+
+-- What the library's `to_be_bytes` gives of a word.
+pub word_bytes_one : (w : ℕ) → w < 2 ^ 32 → to_be_bytes w32 w ≡ word_bytes (w ∷ [])
+unfolding word_bytes
+word_bytes_one w h = let e : w / 2 ^ 24 % 256 ≡ w / 2 ^ 24 = omega arith in ap (λ (a : ℕ). a ∷ b1 w ∷ b2 w ∷ b3 w ∷ []) e

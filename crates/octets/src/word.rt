@@ -6,35 +6,36 @@ ghost use Rattle.octets.specs.Words.{HasBytes, word, word_at, b0, b1, b2, b3, wo
 
 use crate::slice::copy_at;
 
+// Kept: `join`, `byte0` to `byte3` and `put_word` are std's conversions in the words of the specs, `word`, `b0` to `b3` and `placed`.
 pub fn join(a: u8, b: u8, c: u8, d: u8) -> u32
     ensures value { result ≡ word a b c d }
     ensures has_bytes { HasBytes result a b c d }
 {
-    (a as u32) * 16777216 + (b as u32) * 65536 + (c as u32) * 256 + (d as u32)
+    u32::from_be_bytes([a, b, c, d])
 }
 
 pub fn byte0(w: u32) -> u8
     ensures { result ≡ b0 w }
 {
-    (w / 16777216) as u8
+    w.to_be_bytes()[0]
 }
 
 pub fn byte1(w: u32) -> u8
     ensures { result ≡ b1 w }
 {
-    (w / 65536 % 256) as u8
+    w.to_be_bytes()[1]
 }
 
 pub fn byte2(w: u32) -> u8
     ensures { result ≡ b2 w }
 {
-    (w / 256 % 256) as u8
+    w.to_be_bytes()[2]
 }
 
 pub fn byte3(w: u32) -> u8
     ensures { result ≡ b3 w }
 {
-    (w % 256) as u8
+    w.to_be_bytes()[3]
 }
 
 // The word of the four bytes of s at a place.
@@ -50,33 +51,14 @@ pub fn word_at(s: &[u8], at: usize) -> u32
 pub fn join_eight(bytes: [u8; 8]) -> u64
     ensures { result ≡ int bytes }
 {
-    let high = join(bytes[0], bytes[1], bytes[2], bytes[3]);
-    let low = join(bytes[4], bytes[5], bytes[6], bytes[7]);
-    (high as u64) * 4294967296 + (low as u64)
+    u64::from_be_bytes(bytes)
 }
 
 // The eight bytes of a number, the highest first.
 pub fn split_eight(number: u64) -> [u8; 8]
     ensures { result ≡ be 8 number }
 {
-    let high = (number / 4294967296) as u32;
-    let low = (number % 4294967296) as u32;
-    [
-        byte0(high),
-        byte1(high),
-        byte2(high),
-        byte3(high),
-        byte0(low),
-        byte1(low),
-        byte2(low),
-        byte3(low),
-    ]
-}
-
-fn bytes_of(w: u32) -> [u8; 4]
-    ensures { result ≡ word_bytes (w ∷ []) }
-{
-    [byte0(w), byte1(w), byte2(w), byte3(w)]
+    number.to_be_bytes()
 }
 
 // Writes the four bytes of a word to out at a place.
@@ -84,5 +66,5 @@ pub fn put_word(w: u32, out: &mut [u8], at: usize)
     requires { at + 4 ≤ length out.old }
     ensures { out.new ≡ placed (word_bytes (w ∷ [])) at out.old }
 {
-    copy_at(&bytes_of(w), out, at);
+    copy_at(&w.to_be_bytes(), out, at);
 }

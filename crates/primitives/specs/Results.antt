@@ -1,6 +1,6 @@
 -- What each exported function ends in: its status, 1 for done and 0 for refused, and what its buffer holds then.
 -- Assumes nothing.
-use Rattle.std.specs.Prelude.{ℕ, ◌+◌, ◌-◌, ◌^◌, Bool, ◌&&◌, not, cond, List, eqb, ltb, leb, length}
+use Rattle.std.specs.Prelude.{ℕ, ◌+◌, ◌-◌, ◌^◌, Bool, ◌&&◌, not, cond, List, eqb, ltb, leb, length, Option, Some, None}
 use Rattle.octets.specs.Bytes.{placed}
 use Rattle.aes_spec.specs.Cipher.{aes}
 use Rattle.aes_inverse.specs.InverseCipher.{inverse_aes}
@@ -69,6 +69,10 @@ ctr_in_place key first wide text = done_if (eqb (length key) 32 && eqb (length f
 unfoldable pub cmac256 : List ℕ → List ℕ → List ℕ → End
 cmac256 key message d = done_if (eqb (length key) 32 && leb 16 (length d)) (cmac (aes 8 key) message) d
 
+-- The associated data, if it is given.
+abbrev pub ad_of : ℕ → List ℕ → Option (List ℕ)
+ad_of given ad = cond (is_set given) (Some ad) None
+
 -- The sizes that SIV takes here, of a text of n bytes.
 unfoldable pub siv_fits : List ℕ → List ℕ → ℕ → Bool
 siv_fits mac enc n = eqb (length mac) 32 && eqb (length enc) 32 && leb n 1024
@@ -76,13 +80,13 @@ siv_fits mac enc n = eqb (length mac) 32 && eqb (length enc) 32 && leb n 1024
 unfoldable pub siv_seal : List ℕ → List ℕ → ℕ → List ℕ → List ℕ → List ℕ → End
 siv_seal mac enc given ad cleartext d =
     done_if (siv_fits mac enc (length cleartext) && leb (length cleartext + 16) (length d))
-    (siv.seal (aes 8 mac) (aes 8 enc) (pieces (is_set given) ad) cleartext) d
+    (siv.seal (aes 8 mac) (aes 8 enc) (pieces (ad_of given ad)) cleartext) d
 
 unfoldable pub siv_open : List ℕ → List ℕ → ℕ → List ℕ → List ℕ → List ℕ → End
 siv_open mac enc given ad sealed d =
     done_if
     (leb 16 (length sealed) && siv_fits mac enc (length sealed - 16) && leb (length sealed - 16) (length d)
-    && siv.good (aes 8 mac) (aes 8 enc) (pieces (is_set given) ad) sealed)
+    && siv.good (aes 8 mac) (aes 8 enc) (pieces (ad_of given ad)) sealed)
     (siv.plain (aes 8 enc) sealed) d
 
 unfoldable pub sha1_digest : List ℕ → List ℕ → End

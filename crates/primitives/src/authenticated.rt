@@ -4,23 +4,16 @@ ghost use Rattle.aes_spec.specs.Cipher.{aes};
 ghost use Rattle.gcm.specs.Gcm as spec;
 ghost use Rattle.primitives.specs.Results.{end, gcm_fits, gcm_seal, gcm_open};
 
+use aes::round_table::RoundTable;
 use gcm::aead::{crypt, good, seal};
-use gcm::key::prepare;
+use gcm::key::{Key, prepare};
 
 // Do the sizes fit, of a text of n bytes?
+#[tactic(auto, unfolding(crate::specs::Results::gcm_fits))]
 fn gcm_fits(key: &[u8], nonce: &[u8], aad: &[u8], n: usize) -> bool
     ensures { result ≡ gcm_fits key.now nonce.now aad.now n }
 {
-    if key.len() != 32 {
-        return false;
-    }
-    if nonce.len() != 12 {
-        return false;
-    }
-    if 2305843009213693952 <= aad.len() {
-        return false;
-    }
-    n <= 68719476704
+    key.len() == 32 && nonce.len() == 12 && aad.len() < 2305843009213693952 && n <= 68719476704
 }
 
 // Seals the cleartext under a key.
@@ -29,14 +22,20 @@ fn seal_under(key: &[u8], nonce: &[u8], aad: &[u8], cleartext: &[u8], out: &mut 
     requires out_len { length out.old ≡ length cleartext.now + 16 }
     ensures { out.new ≡ spec.seal (aes 8 key.now) nonce.now aad.now cleartext.now }
 {
-    let t = aes::round_table::table();
+    let t = RoundTable::new();
     let mut w = [0u32; 60];
     let mut m = [0u64; 32];
     prepare(&t, key, &mut w, &mut m);
-    seal(&t, &w, &m, nonce, aad, cleartext, out);
+    let k = Key {
+        t: &t,
+        w: &w,
+        m: &m,
+    };
+    seal(&k, nonce, aad, cleartext, out);
 }
 
 // The ciphertext, and then the tag.
+#[tactic(auto, unfolding(crate::specs::Results::gcm_seal, crate::specs::Results::done_if))]
 pub fn primitives_gcm_seal(
     key: &[u8],
     nonce: &[u8],
@@ -58,17 +57,23 @@ pub fn primitives_gcm_seal(
 }
 
 // Opens the sealed text under a key, if its tag is right.
+// Kept: the answer is the test itself and becomes a status of the C interface; `Option<()>` says no more.
 fn open_under(key: &[u8], nonce: &[u8], aad: &[u8], sealed: &[u8], out: &mut [u8]) -> bool
     requires key_len { (length key.now ≡ 32) × (length nonce.now ≡ 12) × (length aad.now < 2 ^ 61) × (length sealed.now ≤ 2 ^ 36 - 16) }
     requires sealed_len { length sealed.now ≡ length out.old + 16 }
     ensures value { result ≡ spec.good (aes 8 key.now) nonce.now aad.now sealed.now }
     ensures out_after { out.new ≡ cond result (spec.plain (aes 8 key.now) nonce.now sealed.now) out.old }
 {
-    let t = aes::round_table::table();
+    let t = RoundTable::new();
     let mut w = [0u32; 60];
     let mut m = [0u64; 32];
     prepare(&t, key, &mut w, &mut m);
-    if !good(&t, &w, &m, nonce, aad, sealed) {
+    let k = Key {
+        t: &t,
+        w: &w,
+        m: &m,
+    };
+    if !good(&k, nonce, aad, sealed) {
         return false;
     }
     let n = sealed.len() - 16;
@@ -77,6 +82,7 @@ fn open_under(key: &[u8], nonce: &[u8], aad: &[u8], sealed: &[u8], out: &mut [u8
 }
 
 // The cleartext, if the tag is right.
+#[tactic(auto, unfolding(crate::specs::Results::gcm_open, crate::specs::Results::done_if))]
 pub fn primitives_gcm_open(
     key: &[u8],
     nonce: &[u8],
@@ -96,8 +102,5 @@ pub fn primitives_gcm_open(
     if out.len() < n {
         return 0;
     }
-    if open_under(key, nonce, aad, sealed, &mut out[..n]) {
-        return 1;
-    }
-    0
+    u32::from(open_under(key, nonce, aad, sealed, &mut out[..n]))
 }

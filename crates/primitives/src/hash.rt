@@ -6,6 +6,7 @@ use hmac::mac;
 use octets::slice::copy_at;
 
 // The digest of a message.
+#[tactic(auto, unfolding(crate::specs::Results::sha1_digest, crate::specs::Results::done_if))]
 pub fn primitives_sha1(message: &[u8], out: &mut [u8]) -> u32
     ensures { end result out.new ≡ sha1_digest message.now out.old }
 {
@@ -17,6 +18,7 @@ pub fn primitives_sha1(message: &[u8], out: &mut [u8]) -> u32
 }
 
 // The digest of a message.
+#[tactic(auto, unfolding(crate::specs::Results::sha256_digest, crate::specs::Results::done_if))]
 pub fn primitives_sha256(message: &[u8], out: &mut [u8]) -> u32
     ensures { end result out.new ≡ sha256_digest message.now out.old }
 {
@@ -28,6 +30,7 @@ pub fn primitives_sha256(message: &[u8], out: &mut [u8]) -> u32
 }
 
 // The MAC of a message, which is handed over in three parts.
+#[tactic(auto, unfolding(crate::specs::Results::hmac_sha256_mac, crate::specs::Results::done_if))]
 pub fn primitives_hmac_sha256(key: &[u8], message: &[u8], out: &mut [u8]) -> u32
     ensures { end result out.new ≡ hmac_sha256_mac key.now message.now out.old }
 {

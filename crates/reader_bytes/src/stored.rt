@@ -6,7 +6,7 @@ ghost use Rattle.answer.specs.Meaning.{meaning};
 ghost use Rattle.reader_bytes.specs.ReaderBytes.{reader_size, combo_number, key_bytes, no_bytes_in, keys_after, store_reader};
 
 use crate::layout::{COMBO_PLACE, KEY_SIZE, READER_SIZE};
-use answer::{Answer, Refusal};
+use answer::Refusal;
 use file_reader::keys::ReaderKeys;
 use file_reader::opening::{Opening, open_keys};
 use octets::slice::copy_at;
@@ -14,6 +14,7 @@ use vault::lengths::right_length;
 use vault::record::{Combo, Vault};
 
 // The number of a combo.
+// Kept: `From<Combo>` for u8 can stand in vault alone, since both types are foreign here, and the number belongs to these bytes.
 fn number_of(combo: Combo) -> u8
     ensures { result ≡ combo_number combo }
 {
@@ -28,52 +29,43 @@ fn store_keys(keys: ReaderKeys, out: &mut [u8])
     requires { reader_size ≤ length out.old }
     ensures { out.new ≡ filled (key_bytes keys) reader_size out.old }
 {
-    let content = keys.content;
-    let mac = keys.mac;
-    let combo = keys.combo;
-    let number = [number_of(combo)];
-    copy_at(&content, out, 0);
-    copy_at(&mac, out, KEY_SIZE);
-    copy_at(&number, out, COMBO_PLACE);
+    copy_at(&keys.content, out, 0);
+    copy_at(&keys.mac, out, KEY_SIZE);
+    out[COMBO_PLACE] = number_of(keys.combo);
 }
 
 // Writes the reader of no bytes to the front of out, if there is room for it.
 fn store_none(out: &mut [u8])
     ensures { out.new ≡ no_bytes_in out.old }
 {
-    if out.len() < READER_SIZE {
-        return;
+    if READER_SIZE <= out.len() {
+        out[..READER_SIZE].copy_from_slice(&[0u8; READER_SIZE]);
     }
-    let none = [0u8; READER_SIZE];
-    copy_at(&none, out, 0);
 }
 
 // Writes what the opening of a header gave, and answers it.
-fn store_opening(opening: Opening, out: &mut [u8]) -> Answer
+fn store_opening(opening: Opening, out: &mut [u8]) -> Result<usize, Refusal>
     requires { reader_size ≤ length out.old }
     ensures { (result ≡ opening.answer) × (out.new ≡ keys_after (meaning opening.answer) opening.keys out.old) }
 {
-    let answer = opening.answer;
-    let keys = opening.keys;
-    match answer {
-        Answer::Done(_) => store_keys(keys, out),
-        Answer::Refused(_) => store_none(out),
+    match opening.answer {
+        Ok(_) => store_keys(opening.keys, out),
+        Err(_) => store_none(out),
     }
-    answer
+    opening.answer
 }
 
 /// Makes the reader of a file and writes its bytes to the front of out; done with the length of the cleartext. A refusal writes the reader of no bytes, if there is room
 /// for it. Rows 4, 7, 9.
-pub fn store_reader(v: Vault, file: &[u8], out: &mut [u8]) -> Answer
+pub fn store_reader(v: Vault, file: &[u8], out: &mut [u8]) -> Result<usize, Refusal>
     ensures { ended (meaning result) out.new ≡ store_reader v file.now out.old }
 {
-    let combo = v.combo;
-    if !right_length(combo, file.len()) {
+    if !right_length(v.combo, file.len()) {
         store_none(out);
-        return Answer::Refused(Refusal::Length);
+        return Err(Refusal::Length);
     }
     if out.len() < READER_SIZE {
-        return Answer::Refused(Refusal::Room);
+        return Err(Refusal::Room);
     }
     store_opening(open_keys(v, file), out)
 }

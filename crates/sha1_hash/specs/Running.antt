@@ -4,10 +4,14 @@ use Rattle.std.specs.Prelude.{ℕ, List}
 use Rattle.hashing.specs.Running as hashing
 use Rattle.sha1_hash.specs.Compression.{compress}
 use Rattle.sha1_hash.specs.Message.{initial}
-use Rattle.sha1_hash.specs.declared.Sha1.{Sha1}
+use Rattle.hashing.specs.declared.running.Hash.{Hash}
+use Rattle.sha1_hash.specs.declared.Words.{Words}
+
+abbrev pub Sha1 : Type 0
+Sha1 = Hash Words
 
 abbrev pub state_of : Sha1 → hashing.State
-state_of t = record { words = t.words; waiting = t.waiting; length = t.length }
+state_of t = record { words = t.words.0; waiting = t.waiting; length = t.length }
 
 -- A state after the message m.
 abbrev pub Running : Sha1 → List ℕ → Type 0

@@ -3,8 +3,7 @@
 use Rattle.std.specs.Prelude.{◌≡◌, ℕ, List, ◌++◌, length}
 use Rattle.octets.specs.Bytes.{Bytes}
 use Rattle.sha1_hash.specs.Message.{sha1}
-use Rattle.sha1_hash.specs.Running.{Running, Updated, finished}
-use Rattle.sha1_hash.specs.declared.Sha1.{Sha1}
+use Rattle.sha1_hash.specs.Running.{Sha1, Running, Updated, finished}
 
 -- The digest has 20 bytes.
 abbrev pub TwentyBytes : Type 0

@@ -3,14 +3,12 @@ ghost use Rattle.std.specs.Prelude.{◌≡◌, ◌+◌, ◌≤◌, length, take,
 ghost use Rattle.hashing.specs.Operations.{plus};
 ghost use Rattle.hashing.specs.Schedule.{extended};
 ghost use Rattle.sha1_hash.specs.Operations.{rotl};
-ghost use Rattle.sha1_hash.specs.Operations as op;
 ghost use Rattle.sha1_hash.specs.Compression as spec;
 ghost use Rattle.sha1_hash.specs.Working.{variables, Uses};
 
 use crate::operations::{parity, rotl1, rotl5, rotl30};
 use hashing::operations::{ch, maj};
 use hashing::words::load;
-use std::num::wrapping_add_u32;
 
 // The working variables.
 #[derive(Clone, Copy)]
@@ -27,14 +25,13 @@ fn extend(w: &mut [u32])
     requires { length w.old ≡ 80 }
     ensures { w.new ≡ extended spec.next_word (take 16 w.old) 64 }
 {
-    let mut t = 16;
-    while t < 80 {
+    for t in 16..80 {
         w[t] = rotl1(w[t - 3] ^ w[t - 8] ^ w[t - 14] ^ w[t - 16]);
-        t += 1;
     }
 }
 
 // The message schedule of the block at a place of s.
+// Kept: that of `sha256` has another length and another next word, and a generic one would be lent both; a block is a place of s, as `hashing::words::load` takes it.
 fn schedule(s: &[u8], at: usize) -> [u32; 80]
     requires { at + 64 ≤ length s.now }
     ensures { result ≡ spec.schedule (take 64 (drop at s.now)) }
@@ -49,9 +46,9 @@ fn schedule(s: &[u8], at: usize) -> [u32; 80]
 fn step(x: Working, f: u32, k: u32, w: u32) -> Working
     ensures { variables result ≡ spec.vars (plus (plus (plus (plus (rotl 5 x.a) f) x.e) k) w) x.a (rotl 30 x.b) x.c x.d }
 {
-    let sum = wrapping_add_u32(wrapping_add_u32(rotl5(x.a), f), x.e);
+    let sum = rotl5(x.a).wrapping_add(f).wrapping_add(x.e);
     Working {
-        a: wrapping_add_u32(wrapping_add_u32(sum, k), w),
+        a: sum.wrapping_add(k).wrapping_add(w),
         b: x.a,
         c: rotl30(x.b),
         d: x.c,
@@ -59,42 +56,22 @@ fn step(x: Working, f: u32, k: u32, w: u32) -> Working
     }
 }
 
-// The steps 0 to 19.
-fn steps_ch(w: &[u32; 80], x: Working) -> Working
-    ensures { variables result ≡ spec.steps w.now 0 20 (variables x) }
-{
-    let mut y = x;
-    let mut n = 0;
-    while n < 20 {
-        y = step(y, ch(y.b, y.c, y.d), 0x5a827999, w[n]);
-        n += 1;
-    }
-    y
-}
-
-// The 20 steps from t on, with the constant k: 20 to 39, and 60 to 79.
-fn steps_parity(w: &[u32; 80], t: usize, k: u32, x: Working) -> Working
-    requires { (t ≤ 60) × Uses t op.parity k }
+// The 20 steps from t on, with the function f and the constant k.
+fn twenty_steps<F: Fn(u32, u32, u32) -> u32>(
+    w: &[u32; 80],
+    t: usize,
+    f: F,
+    k: u32,
+    x: Working,
+) -> Working
+    requires t_value { t ≤ 60 }
+    requires f_callable { F.IsAlwaysCallable f }
+    requires uses { Uses t (F.post f) k }
     ensures { variables result ≡ spec.steps w.now t 20 (variables x) }
 {
     let mut y = x;
-    let mut n = 0;
-    while n < 20 {
-        y = step(y, parity(y.b, y.c, y.d), k, w[t + n]);
-        n += 1;
-    }
-    y
-}
-
-// The steps 40 to 59.
-fn steps_maj(w: &[u32; 80], x: Working) -> Working
-    ensures { variables result ≡ spec.steps w.now 40 20 (variables x) }
-{
-    let mut y = x;
-    let mut n = 0;
-    while n < 20 {
-        y = step(y, maj(y.b, y.c, y.d), 0x8f1bbcdc, w[40 + n]);
-        n += 1;
+    for n in 0..20 {
+        y = step(y, f(y.b, y.c, y.d), k, w[t + n]);
     }
     y
 }
@@ -103,10 +80,10 @@ fn steps_maj(w: &[u32; 80], x: Working) -> Working
 fn steps(w: &[u32; 80], x: Working) -> Working
     ensures { variables result ≡ spec.steps w.now 0 80 (variables x) }
 {
-    let y = steps_ch(w, x);
-    let z = steps_parity(w, 20, 0x6ed9eba1, y);
-    let v = steps_maj(w, z);
-    steps_parity(w, 60, 0xca62c1d6, v)
+    let y = twenty_steps(w, 0, ch, 0x5a827999, x);
+    let z = twenty_steps(w, 20, parity, 0x6ed9eba1, y);
+    let v = twenty_steps(w, 40, maj, 0x8f1bbcdc, z);
+    twenty_steps(w, 60, parity, 0xca62c1d6, v)
 }
 
 // The variables added to the hash value h.
@@ -114,11 +91,11 @@ fn added(h: [u32; 5], x: Working) -> [u32; 5]
     ensures { result ≡ spec.added h (variables x) }
 {
     [
-        wrapping_add_u32(x.a, h[0]),
-        wrapping_add_u32(x.b, h[1]),
-        wrapping_add_u32(x.c, h[2]),
-        wrapping_add_u32(x.d, h[3]),
-        wrapping_add_u32(x.e, h[4]),
+        x.a.wrapping_add(h[0]),
+        x.b.wrapping_add(h[1]),
+        x.c.wrapping_add(h[2]),
+        x.d.wrapping_add(h[3]),
+        x.e.wrapping_add(h[4]),
     ]
 }
 

@@ -5,19 +5,19 @@ ghost use Rattle.sha1_hash.specs.Operations as spec;
 pub fn rotl1(x: u32) -> u32
     ensures { result ≡ spec.rotl 1 x }
 {
-    (x << 1) | (x >> 31)
+    x.rotate_left(1)
 }
 
 pub fn rotl5(x: u32) -> u32
     ensures { result ≡ spec.rotl 5 x }
 {
-    (x << 5) | (x >> 27)
+    x.rotate_left(5)
 }
 
 pub fn rotl30(x: u32) -> u32
     ensures { result ≡ spec.rotl 30 x }
 {
-    (x << 30) | (x >> 2)
+    x.rotate_left(30)
 }
 
 pub fn parity(x: u32, y: u32, z: u32) -> u32

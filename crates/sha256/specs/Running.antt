@@ -4,10 +4,14 @@ use Rattle.std.specs.Prelude.{ℕ, List}
 use Rattle.hashing.specs.Running as hashing
 use Rattle.sha256.specs.Compression.{compress}
 use Rattle.sha256.specs.Message.{initial}
-use Rattle.sha256.specs.declared.Sha256.{Sha256}
+use Rattle.hashing.specs.declared.running.Hash.{Hash}
+use Rattle.sha256.specs.declared.Words.{Words}
+
+abbrev pub Sha256 : Type 0
+Sha256 = Hash Words
 
 abbrev pub state_of : Sha256 → hashing.State
-state_of t = record { words = t.words; waiting = t.waiting; length = t.length }
+state_of t = record { words = t.words.0; waiting = t.waiting; length = t.length }
 
 -- A state after the message m.
 abbrev pub Running : Sha256 → List ℕ → Type 0

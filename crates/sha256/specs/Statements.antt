@@ -3,8 +3,7 @@
 use Rattle.std.specs.Prelude.{◌≡◌, ℕ, List, ◌++◌, length}
 use Rattle.octets.specs.Bytes.{Bytes}
 use Rattle.sha256.specs.Message.{sha256}
-use Rattle.sha256.specs.Running.{Running, Updated, finished}
-use Rattle.sha256.specs.declared.Sha256.{Sha256}
+use Rattle.sha256.specs.Running.{Sha256, Running, Updated, finished}
 
 -- The digest has 32 bytes.
 abbrev pub ThirtyTwoBytes : Type 0

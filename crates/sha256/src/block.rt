@@ -3,14 +3,13 @@ ghost use Rattle.std.specs.Prelude.{◌≡◌, ◌+◌, ◌<◌, ◌≤◌, leng
 ghost use Rattle.hashing.specs.Operations.{plus};
 ghost use Rattle.hashing.specs.Schedule.{extended};
 ghost use Rattle.sha256.specs.Operations.{σ0, σ1};
-ghost use Rattle.sha256.specs.Constants.{constants};
 ghost use Rattle.sha256.specs.Compression as spec;
 ghost use Rattle.sha256.specs.Working.{variables};
 
+use crate::constants::Constants;
 use crate::operations::{big_sigma0, big_sigma1, small_sigma0, small_sigma1};
 use hashing::operations::{ch, maj};
 use hashing::words::load;
-use std::num::wrapping_add_u32;
 
 // The working variables.
 #[derive(Clone, Copy)]
@@ -29,10 +28,9 @@ pub struct Working {
 fn next_word(a: u32, b: u32, c: u32, d: u32) -> u32
     ensures { result ≡ plus (plus (plus (σ1 a) b) (σ0 c)) d }
 {
-    wrapping_add_u32(
-        wrapping_add_u32(wrapping_add_u32(d, small_sigma0(c)), b),
-        small_sigma1(a),
-    )
+    d.wrapping_add(small_sigma0(c))
+        .wrapping_add(b)
+        .wrapping_add(small_sigma1(a))
 }
 
 // Writes W_16 to W_63 after the first 16 words.
@@ -40,14 +38,13 @@ fn extend(w: &mut [u32])
     requires { length w.old ≡ 64 }
     ensures { w.new ≡ extended spec.next_word (take 16 w.old) 48 }
 {
-    let mut t = 16;
-    while t < 64 {
+    for t in 16..64 {
         w[t] = next_word(w[t - 2], w[t - 7], w[t - 15], w[t - 16]);
-        t += 1;
     }
 }
 
 // The message schedule of the block at a place of s.
+// Kept: that of `sha1_hash` has another length and another next word, and a generic one would be lent both; a block is a place of s, as `hashing::words::load` takes it.
 fn schedule(s: &[u8], at: usize) -> [u32; 64]
     requires { at + 64 ≤ length s.now }
     ensures { result ≡ spec.schedule (take 64 (drop at s.now)) }
@@ -62,14 +59,16 @@ fn schedule(s: &[u8], at: usize) -> [u32; 64]
 fn temp1(e: u32, f: u32, g: u32, h: u32, k: u32, w: u32) -> u32
     ensures { result ≡ spec.T1 e f g h k w }
 {
-    let known = wrapping_add_u32(wrapping_add_u32(h, k), w);
-    wrapping_add_u32(wrapping_add_u32(known, ch(e, f, g)), big_sigma1(e))
+    h.wrapping_add(k)
+        .wrapping_add(w)
+        .wrapping_add(ch(e, f, g))
+        .wrapping_add(big_sigma1(e))
 }
 
 fn temp2(a: u32, b: u32, c: u32) -> u32
     ensures { result ≡ spec.T2 a b c }
 {
-    wrapping_add_u32(big_sigma0(a), maj(a, b, c))
+    big_sigma0(a).wrapping_add(maj(a, b, c))
 }
 
 // One step, with the values of K_t and W_t.
@@ -79,11 +78,11 @@ fn step(x: Working, k: u32, w: u32) -> Working
     let one = temp1(x.e, x.f, x.g, x.h, k, w);
     let two = temp2(x.a, x.b, x.c);
     Working {
-        a: wrapping_add_u32(one, two),
+        a: one.wrapping_add(two),
         b: x.a,
         c: x.b,
         d: x.c,
-        e: wrapping_add_u32(x.d, one),
+        e: x.d.wrapping_add(one),
         f: x.e,
         g: x.f,
         h: x.g,
@@ -91,16 +90,16 @@ fn step(x: Working, k: u32, w: u32) -> Working
 }
 
 // Step n, after the steps before it.
-fn step_at(k: &[u32; 64], w: &[u32; 64], n: usize, x: Working) -> Working
-    requires { (k.now ≡ constants) × (n < 64) }
+fn step_at(k: &Constants, w: &[u32; 64], n: usize, x: Working) -> Working
+    requires { n < 64 }
     ensures { (s : spec.Variables) → variables x ≡ spec.steps w.now n s → variables result ≡ spec.steps w.now (n + 1) s }
 {
-    step(x, k[n], w[n])
+    step(x, k.at(n), w[n])
 }
 
 // The eight steps from n on. After eight steps each variable is at its place again, so that none has to be moved.
-fn eight_steps(k: &[u32; 64], w: &[u32; 64], n: usize, x: Working) -> Working
-    requires { (k.now ≡ constants) × (n + 8 ≤ 64) }
+fn eight_steps(k: &Constants, w: &[u32; 64], n: usize, x: Working) -> Working
+    requires { n + 8 ≤ 64 }
     ensures { (s : spec.Variables) → variables x ≡ spec.steps w.now n s → variables result ≡ spec.steps w.now (n + 8) s }
 {
     let x1 = step_at(k, w, n, x);
@@ -114,15 +113,12 @@ fn eight_steps(k: &[u32; 64], w: &[u32; 64], n: usize, x: Working) -> Working
 }
 
 // All 64 steps.
-fn steps(k: &[u32; 64], w: &[u32; 64], x: Working) -> Working
-    requires { k.now ≡ constants }
+fn steps(k: &Constants, w: &[u32; 64], x: Working) -> Working
     ensures { variables result ≡ spec.steps w.now 64 (variables x) }
 {
     let mut y = x;
-    let mut i = 0;
-    while i < 8 {
+    for i in 0..8 {
         y = eight_steps(k, w, 8 * i, y);
-        i += 1;
     }
     y
 }
@@ -132,20 +128,20 @@ fn added(v: [u32; 8], x: Working) -> [u32; 8]
     ensures { result ≡ spec.added v (variables x) }
 {
     [
-        wrapping_add_u32(x.a, v[0]),
-        wrapping_add_u32(x.b, v[1]),
-        wrapping_add_u32(x.c, v[2]),
-        wrapping_add_u32(x.d, v[3]),
-        wrapping_add_u32(x.e, v[4]),
-        wrapping_add_u32(x.f, v[5]),
-        wrapping_add_u32(x.g, v[6]),
-        wrapping_add_u32(x.h, v[7]),
+        x.a.wrapping_add(v[0]),
+        x.b.wrapping_add(v[1]),
+        x.c.wrapping_add(v[2]),
+        x.d.wrapping_add(v[3]),
+        x.e.wrapping_add(v[4]),
+        x.f.wrapping_add(v[5]),
+        x.g.wrapping_add(v[6]),
+        x.h.wrapping_add(v[7]),
     ]
 }
 
-// The hash value after v, by the block at a place of s; k is the table of constants.
-pub fn compress(k: &[u32; 64], v: [u32; 8], s: &[u8], at: usize) -> [u32; 8]
-    requires { (k.now ≡ constants) × (at + 64 ≤ length s.now) }
+// The hash value after v, by the block at a place of s.
+pub fn compress(k: &Constants, v: [u32; 8], s: &[u8], at: usize) -> [u32; 8]
+    requires { at + 64 ≤ length s.now }
     ensures { result ≡ spec.compress v (take 64 (drop at s.now)) }
 {
     let w = schedule(s, at);

@@ -1,5 +1,5 @@
 // The constants K_0 to K_63 of FIPS 180-4, 4.2.2.
-ghost use Rattle.std.specs.Prelude.{◌≡◌};
+ghost use Rattle.std.specs.Prelude.{◌≡◌, ◌<◌, slice_index};
 ghost use Rattle.sha256.specs.Constants as spec;
 
 const K: [u32; 64] = [
@@ -14,8 +14,22 @@ const K: [u32; 64] = [
 ];
 
 // The table, to be lent to a run of blocks: each call of a function that names a constant array copies it.
-pub fn constants() -> [u32; 64]
-    ensures { result ≡ spec.constants }
-{
-    K
+#[derive(Drop)]
+pub struct Constants {
+    table: [u32; 64],
+    ghost standard: { table ≡ spec.constants },
+}
+
+impl Constants {
+    pub fn new() -> Constants {
+        Constants { table: K }
+    }
+
+    // K_n.
+    pub fn at(&self, n: usize) -> u32
+        requires { n < 64 }
+        ensures { result ≡ slice_index spec.constants n }
+    {
+        self.table[n]
+    }
 }

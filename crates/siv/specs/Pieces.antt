@@ -1,7 +1,7 @@
 -- The associated data of a call that takes none or one string.
 -- Assumes nothing.
-use Rattle.std.specs.Prelude.{ℕ, List, [], ◌∷◌, Bool, true, false}
+use Rattle.std.specs.Prelude.{ℕ, List, [], ◌∷◌, Option, Some, None}
 
-abbrev pub pieces : Bool → List ℕ → List (List ℕ)
-pieces true ad = ad ∷ []
-pieces false ad = []
+abbrev pub pieces : Option (List ℕ) → List (List ℕ)
+pieces (Some ad) = ad ∷ []
+pieces None = []

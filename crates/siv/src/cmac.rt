@@ -1,11 +1,11 @@
 // CMAC (SP 800-38B) of a slice, and of the end of one. Each function is lent the round table t and the key schedule w.
 ghost use Rattle.std.specs.Prelude.{◌≡◌, ◌<◌, ◌≤◌, ◌*◌, length, replicate};
-ghost use Rattle.aes_spec.specs.RoundTable.{round_table};
 ghost use Rattle.aes_spec.specs.Cipher.{cipher};
 ghost use Rattle.aes.specs.Blocks.{state};
 ghost use Rattle.siv.specs.Cmac as spec;
 
 use aes::block::{Block, add, block_at, encrypt};
+use aes::round_table::RoundTable;
 use octets::slice::copy_at;
 
 // The block times x in the field of 2^128 elements.
@@ -44,23 +44,20 @@ pub fn padded(s: &[u8]) -> Block
 }
 
 // The chain after n blocks of s, from c on.
-pub fn chain(t: &[u32; 256], w: &[u32], c: Block, s: &[u8], n: usize) -> Block
-    requires t_value { t.now ≡ round_table }
+// Kept: t and w apart, with the clause on w, here and in `s2v` and `seal`: see `aes::block::encrypt`.
+pub fn chain(t: &RoundTable, w: &[u32], c: Block, s: &[u8], n: usize) -> Block
     requires in_bounds { (60 ≤ length w.now) × (16 * n ≤ length s.now) }
     ensures { state result ≡ spec.chain (cipher 14 w.now) (state c) s.now n }
 {
     let mut x = c;
-    let mut i: usize = 0;
-    while i < n {
+    for i in 0..n {
         x = encrypt(t, w, add(x, block_at(s, 16 * i)));
-        i += 1;
     }
     x
 }
 
 // The last block of a message, with its subkey added.
-fn last_block(t: &[u32; 256], w: &[u32], s: &[u8]) -> Block
-    requires t_value { t.now ≡ round_table }
+fn last_block(t: &RoundTable, w: &[u32], s: &[u8]) -> Block
     requires in_bounds { (60 ≤ length w.now) × (length s.now ≤ 16) }
     ensures { state result ≡ spec.last_block (cipher 14 w.now) s.now }
 {
@@ -72,8 +69,7 @@ fn last_block(t: &[u32; 256], w: &[u32], s: &[u8]) -> Block
 }
 
 // CMAC to the end of a message that goes on with s, from c on.
-pub fn cmac_from(t: &[u32; 256], w: &[u32], c: Block, s: &[u8]) -> Block
-    requires t_value { t.now ≡ round_table }
+pub fn cmac_from(t: &RoundTable, w: &[u32], c: Block, s: &[u8]) -> Block
     requires in_bounds { 60 ≤ length w.now }
     ensures { state result ≡ spec.cmac_from (cipher 14 w.now) (state c) s.now }
 {
@@ -86,8 +82,7 @@ pub fn cmac_from(t: &[u32; 256], w: &[u32], c: Block, s: &[u8]) -> Block
     encrypt(t, w, add(x, last_block(t, w, &s[at..])))
 }
 
-pub fn cmac(t: &[u32; 256], w: &[u32], s: &[u8]) -> Block
-    requires t_value { t.now ≡ round_table }
+pub fn cmac(t: &RoundTable, w: &[u32], s: &[u8]) -> Block
     requires in_bounds { 60 ≤ length w.now }
     ensures { state result ≡ spec.cmac (cipher 14 w.now) s.now }
 {

@@ -7,10 +7,11 @@ ghost use Rattle.vault_bytes.specs.VaultBytes.{lent_end};
 ghost use Rattle.skrapnefja.specs.Results.{plain_result, result_of, placed_result, placed_result_of};
 
 use crate::ending::{end, end_at};
+use answer::row_number;
 use file_mend::mend;
 use file_read::{open_file, read_range};
 use file_write::write_file;
-use vault_bytes::{lent_row, vault_in};
+use vault_bytes::lent_vault;
 
 // Writes the file of a cleartext; `chunk_nonces` has one nonce for each chunk, in order.
 pub fn skrapnefja_write_file(
@@ -24,21 +25,13 @@ pub fn skrapnefja_write_file(
 ) -> u32
     ensures { plain_result result out.new written.new ≡ result_of (lent_end vault.now (λ v. write_file (codec_of v) (own_choice header_nonce.now content_key.now chunk_nonces.now cleartext.now) out.old) out.old) written.old }
 {
-    let row = lent_row(vault);
-    if row != 0 {
-        return row;
-    }
-    end(
-        write_file(
-            vault_in(vault),
-            header_nonce,
-            content_key,
-            chunk_nonces,
-            cleartext,
-            out,
+    match lent_vault(vault) {
+        Ok(v) => end(
+            write_file(v, header_nonce, content_key, chunk_nonces, cleartext, out),
+            written,
         ),
-        written,
-    )
+        Err(refusal) => row_number(refusal),
+    }
 }
 
 // Opens a file.
@@ -51,11 +44,10 @@ pub fn skrapnefja_open_file(
 ) -> u32
     ensures { placed_result result out.new written.new at.new ≡ placed_result_of (lent_end vault.now (λ v. open_file (codec_of v) file.now out.old) out.old) written.old at.old }
 {
-    let row = lent_row(vault);
-    if row != 0 {
-        return row;
+    match lent_vault(vault) {
+        Ok(v) => end_at(open_file(v, file, out), written, at),
+        Err(refusal) => row_number(refusal),
     }
-    end_at(open_file(vault_in(vault), file, out), written, at)
 }
 
 // Reads count bytes of the cleartext of a file, from `from` on.
@@ -70,15 +62,14 @@ pub fn skrapnefja_read_range(
 ) -> u32
     ensures { placed_result result out.new written.new at.new ≡ placed_result_of (lent_end vault.now (λ v. read_range (codec_of v) file.now from count out.old) out.old) written.old at.old }
 {
-    let row = lent_row(vault);
-    if row != 0 {
-        return row;
+    match lent_vault(vault) {
+        Ok(v) => end_at(
+            read_range(v, file, from as usize, count as usize, out),
+            written,
+            at,
+        ),
+        Err(refusal) => row_number(refusal),
     }
-    end_at(
-        read_range(vault_in(vault), file, from as usize, count as usize, out),
-        written,
-        at,
-    )
 }
 
 // Replaces the bytes of the cleartext of a file from `from` on, in place; `nonces` has one nonce for each chunk that covers the range, in order.
@@ -93,13 +84,8 @@ pub fn skrapnefja_mend(
 ) -> u32
     ensures { placed_result result file.new written.new at.new ≡ placed_result_of (lent_end vault.now (λ v. mend_file (codec_of v) file.old from new_bytes.now nonces.now) file.old) written.old at.old }
 {
-    let row = lent_row(vault);
-    if row != 0 {
-        return row;
+    match lent_vault(vault) {
+        Ok(v) => end_at(mend(v, file, from as usize, new_bytes, nonces), written, at),
+        Err(refusal) => row_number(refusal),
     }
-    end_at(
-        mend(vault_in(vault), file, from as usize, new_bytes, nonces),
-        written,
-        at,
-    )
 }

@@ -7,8 +7,9 @@ ghost use Rattle.vault_bytes.specs.VaultBytes.{lent_end};
 ghost use Rattle.skrapnefja.specs.Results.{plain_result, result_of, header_result, header_result_of};
 
 use crate::ending::{end, end_header};
+use answer::row_number;
 use content::header::{open_header, write_header};
-use vault_bytes::{lent_row, vault_in};
+use vault_bytes::lent_vault;
 
 // Writes the header of a nonce and a content key, its eight reserved bytes FF.
 pub fn skrapnefja_write_header(
@@ -20,14 +21,10 @@ pub fn skrapnefja_write_header(
 ) -> u32
     ensures { plain_result result out.new written.new ≡ result_of (lent_end vault.now (λ v. write_header (codec_of v) (own_head nonce.now content_key.now) out.old) out.old) written.old }
 {
-    let row = lent_row(vault);
-    if row != 0 {
-        return row;
+    match lent_vault(vault) {
+        Ok(v) => end(write_header(v, nonce, content_key, out), written),
+        Err(refusal) => row_number(refusal),
     }
-    end(
-        write_header(vault_in(vault), nonce, content_key, out),
-        written,
-    )
 }
 
 // Opens a header: writes its content key, 32 bytes, and its eight reserved bytes as a number, the first byte the highest.
@@ -40,9 +37,8 @@ pub fn skrapnefja_open_header(
 ) -> u32
     ensures { header_result result out.new written.new reserved.new ≡ header_result_of (lent_end vault.now (λ v. open_header (codec_of v) header.now out.old) out.old) written.old reserved.old }
 {
-    let row = lent_row(vault);
-    if row != 0 {
-        return row;
+    match lent_vault(vault) {
+        Ok(v) => end_header(open_header(v, header, out), written, reserved),
+        Err(refusal) => row_number(refusal),
     }
-    end_header(open_header(vault_in(vault), header, out), written, reserved)
 }

@@ -5,10 +5,11 @@ ghost use Rattle.vault_bytes.specs.VaultBytes.{lent_name_end};
 ghost use Rattle.skrapnefja.specs.Results.{lent_writer_end, path_end, plain_result, result_of, placed_result, placed_result_of, name_result, name_result_of};
 
 use crate::ending::{end, end_at, end_name};
+use answer::row_number;
 use names::opener::{open_long_name, open_name};
 use names::path::dir_path;
 use names::writer::write_name;
-use vault_bytes::{lent_name_row, lent_row, vault_in};
+use vault_bytes::{lent_name_vault, lent_vault};
 
 // Writes what is stored for a name in the directory with this ID, and for a shortened name its full name to the second buffer.
 pub fn skrapnefja_write_name(
@@ -22,15 +23,14 @@ pub fn skrapnefja_write_name(
 ) -> u32
     ensures { name_result result stored.new full.new written.new full_length.new ≡ name_result_of (lent_writer_end vault.now (λ v. write_name v dir_id.now name.now stored.old full.old) stored.old full.old) written.old full_length.old }
 {
-    let row = lent_name_row(vault);
-    if row != 0 {
-        return row;
+    match lent_name_vault(vault) {
+        Ok(v) => end_name(
+            write_name(v, dir_id, name, stored, full),
+            written,
+            full_length,
+        ),
+        Err(refusal) => row_number(refusal),
     }
-    end_name(
-        write_name(vault_in(vault), dir_id, name, stored, full),
-        written,
-        full_length,
-    )
 }
 
 // Opens a name that is stored as it is; row 5 tells the place in it.
@@ -44,11 +44,10 @@ pub fn skrapnefja_open_name(
 ) -> u32
     ensures { placed_result result out.new written.new at.new ≡ placed_result_of (lent_name_end vault.now (λ v. open_name v dir_id.now stored.now out.old) out.old) written.old at.old }
 {
-    let row = lent_name_row(vault);
-    if row != 0 {
-        return row;
+    match lent_name_vault(vault) {
+        Ok(v) => end_at(open_name(v, dir_id, stored, out), written, at),
+        Err(refusal) => row_number(refusal),
     }
-    end_at(open_name(vault_in(vault), dir_id, stored, out), written, at)
 }
 
 // Opens a shortened name: what is stored, and its full name; row 5 tells the place in the latter.
@@ -63,24 +62,18 @@ pub fn skrapnefja_open_long_name(
 ) -> u32
     ensures { placed_result result out.new written.new at.new ≡ placed_result_of (lent_name_end vault.now (λ v. open_long_name v dir_id.now stored.now full.now out.old) out.old) written.old at.old }
 {
-    let row = lent_name_row(vault);
-    if row != 0 {
-        return row;
+    match lent_name_vault(vault) {
+        Ok(v) => end_at(open_long_name(v, dir_id, stored, full, out), written, at),
+        Err(refusal) => row_number(refusal),
     }
-    end_at(
-        open_long_name(vault_in(vault), dir_id, stored, full, out),
-        written,
-        at,
-    )
 }
 
 // Writes the path of the directory with this ID: 36 characters.
 pub fn skrapnefja_dir_path(vault: &[u8], dir_id: &[u8], out: &mut [u8], written: &mut u64) -> u32
     ensures { plain_result result out.new written.new ≡ result_of (path_end vault.now dir_id.now out.old) written.old }
 {
-    let row = lent_row(vault);
-    if row != 0 {
-        return row;
+    match lent_vault(vault) {
+        Ok(v) => end(dir_path(v, dir_id, out), written),
+        Err(refusal) => row_number(refusal),
     }
-    end(dir_path(vault_in(vault), dir_id, out), written)
 }

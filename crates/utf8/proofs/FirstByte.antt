@@ -147,3 +147,6 @@ module _ (a : ℕ) (l : 0xf0 ≤ a) (s : List ℕ) where
   pub behind_f4 : a ≡ 0xf4 → well_formed (a ∷ s) ≡ continued 3 0x80 0x8f s
   unfolding utf8_4
   behind_f4 e = four_goes 0x80 0x8f (λ b c d. rw e)
+
+-- Every row.
+pub ruleset rows = (behind_stray, behind-two, behind_e0, behind_three, behind_ed, behind_f0, behind_four, behind_f4, behind_none)

@@ -123,6 +123,21 @@ front (x ∷ u) r s b h e = (u, let z : x ≡ b = cc in ap (λ (y : ℕ). y ∷ 
 pub ascii : (b : ℕ) (s : List ℕ) → b < 0x80 → character (b ∷ s) ≡ some (b, s)
 ascii b s h = reads b (b ∷ s) s (omega arith, λ l k. omega arith) (ap (λ (e : List ℕ). e ++ s) (encode1 b (omega arith)))
 
+octets : (c : ℕ) → Scalar c → 1 ≤ length (encode c)
+octets c h = let k = exactly.some c [] (table c h) in let e = ap length (append-nil (encode c)) in omega arith
+
+-- Where no text that begins with a byte is well formed, no character begins with it.
+pub unread : (b : ℕ) (s : List ℕ) → ((t : List ℕ) → well_formed (b ∷ t) ≡ false) → character (b ∷ s) ≡ none
+unread b s f = go (character (b ∷ s)) refl
+  where
+    go : (o : Option (ℕ × List ℕ)) → character (b ∷ s) ≡ o → o ≡ none
+    go none k = refl
+    go (some (c, r)) k =
+        let p = read c (b ∷ s) r k in
+        let (u, q, v) = front (encode c) r s b (octets c p.0) p.1 in
+        let w : well_formed (b ∷ u) ≡ true = ap well_formed (sym q) ∙ exactly.alone c (p.0, tt) in
+        absurd (true_false (sym w ∙ f u))
+
 -- Behind the byte b n tails are awaited, the first of them from lo to hi.
 module _ (b n lo hi : ℕ) (s : List ℕ) (f : (t : List ℕ) → well_formed (b ∷ t) ≡ continued n lo hi t) where
   -- The octets of a character that begins with b are tails.
@@ -130,9 +145,6 @@ module _ (b n lo hi : ℕ) (s : List ℕ) (f : (t : List ℕ) → well_formed (b
   tails_of c u h e =
       let w : well_formed (b ∷ u) ≡ true = ap well_formed (sym e) ∙ exactly.alone c (h, tt) in
       (and_true (tails_from n lo hi u) (well_formed (drop n u)) (sym (continued_tails n lo hi u) ∙ sym (f u) ∙ w)).0
-
-  octets : (c : ℕ) → Scalar c → 1 ≤ length (encode c)
-  octets c h = let k = exactly.some c [] (table c h) in let e = ap length (append-nil (encode c)) in omega arith
 
   one_only : (c : ℕ) (r : List ℕ) → Scalar c → n ≤ length s → encode c ++ r ≡ b ∷ take n s → encode c ++ drop n s ≡ b ∷ s
   one_only c r h l e =

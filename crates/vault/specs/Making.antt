@@ -1,15 +1,14 @@
 -- Making a record.
 -- Assumes nothing.
-use Rattle.std.specs.Prelude.{ℕ, ◌≡◌, cond, List, [], ◌↔◌, replicate}
+use Rattle.std.specs.Prelude.{ℕ, ◌≡◌, cond, List, [], ◌↔◌, replicate, Result, Ok, Err}
 use Rattle.octets.specs.Rows.{Outcome, done, refused}
 use Rattle.frame.specs.Frame.{key_size, master_keys_right}
 use Rattle.frame.specs.Rules.{KeySizes}
 use Rattle.threshold.specs.Threshold.{threshold_right, ThresholdFits}
+use Rattle.answer.specs.declared.Refusal.{Refusal}
 use Rattle.answer.specs.Meaning.{row}
 use Rattle.vault.specs.declared.record.Combo.{Combo}
 use Rattle.vault.specs.declared.record.Vault.{Vault}
-use Rattle.vault.specs.declared.record.Made.{Made}
-use Rattle.vault.specs.declared.record.Made.TheVariants.{Done, Refused}
 use Rattle.vault.specs.declared.record.MadeVault.{MadeVault}
 use Rattle.vault.specs.Vault.{vault_with}
 
@@ -19,9 +18,9 @@ pub record Making : Type 0 where
   pub vault : Vault
 
 -- What the code's answer means.
-abbrev pub meaning : Made → Outcome
-meaning Done = done []
-meaning (Refused r) = row r
+abbrev pub meaning : Result Unit Refusal → Outcome
+meaning (Ok _) = done []
+meaning (Err r) = row r
 
 abbrev pub making : MadeVault → Making
 making r = record { outcome = meaning r.made; vault = r.vault }

@@ -22,16 +22,9 @@ fn clear_by(z: ComboSizes, l: usize) -> usize
     requires { z.overhead ≤ 48 }
     ensures { result ≡ clear_length (sizes_in z) l }
 {
-    if l < z.header {
-        return 0;
-    }
-    let rest = l - z.header;
+    let rest = l.saturating_sub(z.header);
     let full = 32768 + z.overhead;
-    let left = rest % full;
-    if left < z.overhead {
-        return rest / full * 32768;
-    }
-    rest / full * 32768 + (left - z.overhead)
+    rest / full * 32768 + (rest % full).saturating_sub(z.overhead)
 }
 
 // Can a file have l bytes, by the sizes z?
@@ -42,12 +35,8 @@ fn right_by(z: ComboSizes, l: usize) -> bool
     if l < z.header {
         return false;
     }
-    let full = 32768 + z.overhead;
-    let left = (l - z.header) % full;
-    if left == 0 {
-        return clear_by(z, l) <= 16777216;
-    }
-    if left < z.overhead + 1 {
+    let left = (l - z.header) % (32768 + z.overhead);
+    if left > 0 && left <= z.overhead {
         return false;
     }
     clear_by(z, l) <= 16777216

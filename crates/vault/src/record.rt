@@ -5,7 +5,6 @@ ghost use Rattle.answer.specs.Meaning.{row};
 ghost use Rattle.vault.specs.Making.{making, make_vault, unmade};
 
 use answer::Refusal;
-use octets::slice::copy_at;
 use threshold::threshold_right;
 
 /// How headers and chunks are enciphered.
@@ -25,16 +24,11 @@ pub struct Vault {
     pub threshold: u8,
 }
 
-#[derive(Clone, Copy)]
-pub enum Made {
-    Done,
-    Refused(Refusal),
-}
-
 /// What the making of a record answers, and beside it the record; one of keys of zeros and the threshold 0 beside a refusal.
+// Kept: `MakesExactly` and the edit `threshold_of_220_beside_a_refusal` speak of the record beside a refusal.
 #[derive(Clone, Copy)]
 pub struct MadeVault {
-    pub made: Made,
+    pub made: Result<(), Refusal>,
     pub vault: Vault,
 }
 
@@ -42,10 +36,7 @@ pub struct MadeVault {
 pub fn master_keys_right(enc: &[u8], mac: &[u8]) -> bool
     ensures { result ≡ master_keys_right enc.now mac.now }
 {
-    if enc.len() != 32 {
-        return false;
-    }
-    mac.len() == 32
+    enc.len() == 32 && mac.len() == 32
 }
 
 // A refusal of the making.
@@ -53,7 +44,7 @@ fn refused(refusal: Refusal, combo: Combo) -> MadeVault
     ensures { making result ≡ unmade (row refusal) combo }
 {
     MadeVault {
-        made: Made::Refused(refusal),
+        made: Err(refusal),
         vault: Vault {
             enc: [0u8; 32],
             mac: [0u8; 32],
@@ -75,10 +66,10 @@ pub fn make_vault(enc: &[u8], mac: &[u8], combo: Combo, threshold: u32) -> MadeV
     }
     let mut e = [0u8; 32];
     let mut m = [0u8; 32];
-    copy_at(enc, &mut e, 0);
-    copy_at(mac, &mut m, 0);
+    e.copy_from_slice(enc);
+    m.copy_from_slice(mac);
     MadeVault {
-        made: Made::Done,
+        made: Ok(()),
         vault: Vault {
             enc: e,
             mac: m,

@@ -35,8 +35,5 @@ pub fn sizes_of(combo: Combo) -> ComboSizes
 pub fn head_right(combo: Combo, nonce: &[u8], key: &[u8]) -> bool
     ensures { result ≡ head_right (sizes_of combo) (own_head nonce.now key.now) }
 {
-    if nonce.len() != sizes_of(combo).nonce {
-        return false;
-    }
-    key.len() == 32
+    nonce.len() == sizes_of(combo).nonce && key.len() == 32
 }

@@ -23,7 +23,7 @@ use Rattle.vault_bytes.proofs.Combos.{untrue, unknown}
 use Rattle.vault_bytes.proofs.Storing.{joined-size, stored}
 
 -- The parts of 66 bytes.
-key-sizes : (b : List ℕ) → length b ≡ 66 → KeySizes (take 32 b) (take 32 (drop 32 b))
+pub key-sizes : (b : List ℕ) → length b ≡ 66 → KeySizes (take 32 b) (take 32 (drop 32 b))
 key-sizes b l = (length-take-le 32 b (omega arith), length-take-le 32 (drop 32 b) (omega (arith, length-drop 32 b)))
 
 parts : (b : List ℕ) → length b ≡ 66 → take 32 b ++ take 32 (drop 32 b) ++ get_or b 64 0 ∷ get_or b 65 0 ∷ [] ≡ b
@@ -66,25 +66,25 @@ module _ (enc mac : List ℕ) (n t : ℕ) (k : KeySizes enc mac) where
 -- ---- the row of the bytes
 
 module _ (b : List ℕ) where
-  no_size : (length b ≡ 66 → ⊥) → (lent_row b ≡ 1) × (lent_name_row b ≡ 1)
+  pub no_size : (length b ≡ 66 → ⊥) → (lent_row b ≡ 1) × (lent_name_row b ≡ 1)
   unfolding lent_row lent_name_row
   no_size f = let e = ne_eqb (length b) 66 f in (rw e, rw e)
 
   module _ (l : length b ≡ 66) where
-    no_combo : combo_known (get_or b 64 0) ≡ false → lent_row b ≡ 17
+    pub no_combo : combo_known (get_or b 64 0) ≡ false → lent_row b ≡ 17
     unfolding lent_row
     no_combo e = rw (eq-eqb (length b) 66 l, e)
 
-    no_row : combo_known (get_or b 64 0) ≡ true → lent_row b ≡ 0
+    pub no_row : combo_known (get_or b 64 0) ≡ true → lent_row b ≡ 0
     unfolding lent_row
     no_row e = rw (eq-eqb (length b) 66 l, e)
 
-    no_threshold : threshold_right (get_or b 65 0) ≡ false → lent_name_row b ≡ 18
+    pub no_threshold : threshold_right (get_or b 65 0) ≡ false → lent_name_row b ≡ 18
     unfolding lent_name_row
     no_threshold f = rw (eq-eqb (length b) 66 l, f)
 
     -- At the calls on names the row is the same where the threshold fits.
-    same_row : threshold_right (get_or b 65 0) ≡ true → lent_name_row b ≡ lent_row b
+    pub same_row : threshold_right (get_or b 65 0) ≡ true → lent_name_row b ≡ lent_row b
     unfolding lent_name_row
     same_row f = rw (eq-eqb (length b) 66 l, f)
 
@@ -166,27 +166,16 @@ made_is_lent A enc mac out t call refusal k f r =
       name-joined ctrmac call refusal enc mac 2 t k refl b f,
     )
 
--- ---- for code
+-- ---- for a call under its record
 
 -- Bytes that give no row are 66.
-zero_row : (b : List ℕ) (row : ℕ) → ((length b ≡ 66 → ⊥) → row ≡ 1) → row ≡ 0 → length b ≡ 66
-zero_row b row one z = by_test (eqb (length b) 66) refl
+pub lent-size : (b : List ℕ) → lent_row b ≡ 0 → length b ≡ 66
+lent-size b z = by_test (eqb (length b) 66) refl
   where
     by_test : (t : Bool) → eqb (length b) 66 ≡ t → length b ≡ 66
     by_test true q = eqb-true (length b) 66 q
-    by_test false q = absurd (let e = one (eqb-false (length b) 66 q) in omega (arith, e, z))
+    by_test false q = absurd (let e = (no_size b (eqb-false (length b) 66 q)).0 in omega (arith, e, z))
 
-pub lent-size : (b : List ℕ) → lent_row b ≡ 0 → length b ≡ 66
-lent-size b = zero_row b (lent_row b) (λ f. (no_size b f).0)
-
-pub lent-name-size : (b : List ℕ) → lent_name_row b ≡ 0 → length b ≡ 66
-lent-name-size b = zero_row b (lent_name_row b) (λ f. (no_size b f).1)
-
-module _ {A : Type 0} (b : List ℕ) (call : Vault → A) (refusal : ℕ → A) where
-  -- their row
-  pub lent-refused : {r row : ℕ} → r ≡ row → (r ≡ 0 → ⊥) → refusal r ≡ lent_by row b call refusal
-  lent-refused {r} e f = sym (by_row b call refusal r (sym e) (ne_eqb r 0 f))
-
-  -- what the call comes to under their record
-  pub lent_under : {r row : ℕ} {v : Vault} → r ≡ row → r ≡ 0 → v ≡ vault_in b → call v ≡ lent_by row b call refusal
-  lent_under e z q = ap call q ∙ sym (by_record b call refusal (sym e ∙ z))
+-- What the call comes to under it.
+pub lent_under : {A : Type 0} (b : List ℕ) (call : Vault → A) (refusal : ℕ → A) {r row : ℕ} {v : Vault} → r ≡ row → r ≡ 0 → v ≡ vault_in b → call v ≡ lent_by row b call refusal
+lent_under b call refusal e z q = ap call q ∙ sym (by_record b call refusal (sym e ∙ z))

@@ -1,20 +1,22 @@
 -- The making: what it leaves, and the rules that it goes by.
 -- Assumes nothing.
-use Prim.Native.Nat.{ℕ, ◌+◌, ◌≤◌}
+use Prim.Native.Nat.{ℕ, ◌+◌, ◌≤◌, ◌<◌}
 use mathlib.Core.Path.{◌≡◌, refl, sym, ap, ◌∙◌}
-use mathlib.Core.Bool.{true, not}
+use mathlib.Core.Bool.{true, false, not}
 use mathlib.Core.List.{List, [], ◌∷◌, ◌++◌}
 use native.Mathlib.Omega.{arith}
-use borrow.Author.Tests.{le-ltb}
+use borrow.Author.Tests.{lt-ltb, le-ltb}
+use lib.Dec.{lit≤}
 use lib.ListN.{length, length-append}
 use lib.Seq.{length-take-le}
 use Rattle.octets.specs.Bytes.{placed, filled}
-use Rattle.octets.specs.Rows.{done, ended}
+use Rattle.octets.specs.Rows.{EndsExactly, done, refused, ended}
 use Rattle.octets.proofs.Lists.{at_front, front_filled, placed-placed}
 use Rattle.octets.proofs.Tests.{not_fails, ltb_fails}
-use Rattle.octets.proofs.Rows.{Matches, none_ends, ends_by}
+use Rattle.octets.proofs.Rows.{Matches, none_ends, ends_by, ends_exactly}
 use Rattle.threshold.specs.Threshold.{threshold_right}
 use Rattle.threshold.proofs.Exactly.{threshold_exactly}
+use Rattle.frame.specs.Frame.{master_keys_right}
 use Rattle.frame.specs.Rules.{KeySizes}
 use Rattle.frame.proofs.KeySizes.{keys_exactly}
 use Rattle.vault_bytes.specs.VaultBytes.{combo_known, joined, store_vault_rows, store_vault}
@@ -62,3 +64,28 @@ unfolding store_vault_rows store_vault
 stored enc mac out n t k r e f =
     none_ends (store_vault_rows enc mac n t (length out)) (66 ∷ []) (filled (joined enc mac n t) 66 out) out
     (ap not ((keys_exactly enc mac).1 k), (le-ltb (length out) 66 r, (ap not e, (ap not f, tt))))
+
+-- ---- for code: the end by each row
+
+module _ (enc mac out : List ℕ) (n t : ℕ) where
+  ends : EndsExactly (store_vault_rows enc mac n t (length out)) (66 ∷ []) (filled (joined enc mac n t) 66 out) out (store_vault enc mac n t out)
+  unfolding store_vault_rows store_vault
+  ends = ends_exactly (store_vault_rows enc mac n t (length out)) refl (66 ∷ []) (filled (joined enc mac n t) 66 out) out
+
+  pub store_1 : master_keys_right enc mac ≡ false → ended (refused 1) out ≡ store_vault enc mac n t out
+  unfolding store_vault_rows
+  store_1 e = sym ((ends.0 0 (lit≤ tt)).1 (ap not e))
+
+  module _ (keyed : master_keys_right enc mac ≡ true) where
+    pub store_7 : length out < 66 → ended (refused 7) out ≡ store_vault enc mac n t out
+    unfolding store_vault_rows
+    store_7 few = sym ((ends.0 1 (lit≤ tt)).1 (ap not keyed, lt-ltb _ _ few))
+
+    module _ (room : 66 ≤ length out) where
+      pub store_17 : combo_known n ≡ false → ended (refused 17) out ≡ store_vault enc mac n t out
+      unfolding store_vault_rows
+      store_17 e = sym ((ends.0 2 (lit≤ tt)).1 (ap not keyed, (le-ltb _ _ room, ap not e)))
+
+      pub store_18 : combo_known n ≡ true → threshold_right t ≡ false → ended (refused 18) out ≡ store_vault enc mac n t out
+      unfolding store_vault_rows
+      store_18 e f = sym ((ends.0 3 (lit≤ tt)).1 (ap not keyed, (le-ltb _ _ room, (ap not e, ap not f))))

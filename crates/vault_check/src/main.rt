@@ -12,6 +12,7 @@ fn read_full<R: Read>(input: &mut R, buffer: &mut [u8]) -> usize
     ensures { result ≤ length buffer.new }
 {
     let mut done = 0;
+    // Kept: a step is as long as what one read gives, and a read that fails ends it as the end of the input does.
     while done < buffer.len() {
         let n = input.read(&mut buffer[done..]).unwrap_or(0);
         if n == 0 {

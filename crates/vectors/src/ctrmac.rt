@@ -14,7 +14,7 @@ pub fn stock_chunk(rt: &impl Print) -> io::Result<()> {
     let nonce = [0u8; 16];
     let v = vault_of(&zeros, &zeros, Combo::SivCtrmac);
     let mut chunk = [0u8; 59];
-    write_chunk(v, &zeros, &nonce, 0, &nonce, b"hello world", &mut chunk);
+    let _ = write_chunk(v, &zeros, &nonce, 0, &nonce, b"hello world", &mut chunk);
     print(rt, &chunk)?;
     Ok(())
 }
@@ -22,7 +22,7 @@ pub fn stock_chunk(rt: &impl Print) -> io::Result<()> {
 // A header, and what it opens to; and what the same header with other reserved bytes does.
 fn header(rt: &impl Print, v: Vault, nonce: &[u8], content_key: &[u8]) -> io::Result<()> {
     let mut header = [0u8; 88];
-    write_header(v, nonce, content_key, &mut header);
+    let _ = write_header(v, nonce, content_key, &mut header);
     print(rt, &header)?;
     opened_header(rt, v, &header)?;
     let other =
@@ -37,7 +37,7 @@ fn chunk(rt: &impl Print, v: Vault, content_key: &[u8], header_nonce: &[u8]) -> 
     let nonce = b"\xb0\xb1\xb2\xb3\xb4\xb5\xb6\xb7\xb8\xb9\xba\xbb\xbc\xbd\xbe\xbf";
     let text = b"hello world";
     let mut chunk = [0u8; 59];
-    write_chunk(
+    let _ = write_chunk(
         v,
         content_key,
         header_nonce,
@@ -48,7 +48,7 @@ fn chunk(rt: &impl Print, v: Vault, content_key: &[u8], header_nonce: &[u8]) -> 
     );
     print(rt, &chunk)?;
     let mut cleartext = [0u8; 11];
-    open_chunk(v, content_key, header_nonce, number, &chunk, &mut cleartext);
+    let _ = open_chunk(v, content_key, header_nonce, number, &chunk, &mut cleartext);
     print(rt, &cleartext)?;
     Ok(())
 }
@@ -64,7 +64,7 @@ fn wrapped_counter(
     let text =
         b"\x01\x02\x03\x04\x05\x06\x07\x08\x09\x0a\x0b\x0c\x0d\x0e\x0f\x10\x11\x12\x13\x14\x15\x16\x17\x18\x19\x1a\x1b\x1c\x1d\x1e\x1f\x20\x21\x22\x23\x24\x25\x26\x27\x28";
     let mut chunk = [0u8; 88];
-    write_chunk(v, content_key, header_nonce, 3, &nonce, text, &mut chunk);
+    let _ = write_chunk(v, content_key, header_nonce, 3, &nonce, text, &mut chunk);
     print(rt, &chunk)?;
     Ok(())
 }
@@ -74,13 +74,13 @@ fn file(rt: &impl Print, v: Vault, content_key: &[u8], header_nonce: &[u8]) -> i
     let nonce = b"\xb0\xb1\xb2\xb3\xb4\xb5\xb6\xb7\xb8\xb9\xba\xbb\xbc\xbd\xbe\xbf";
     let text = b"hello world";
     let mut file = [0u8; 147];
-    write_file(v, header_nonce, content_key, nonce, text, &mut file);
+    let _ = write_file(v, header_nonce, content_key, nonce, text, &mut file);
     print(rt, &file)?;
     let mut cleartext = [0u8; 11];
-    open_file(v, &file, &mut cleartext);
+    let _ = open_file(v, &file, &mut cleartext);
     print(rt, &cleartext)?;
     let mut part = [0u8; 5];
-    read_range(v, &file, 6, 5, &mut part);
+    let _ = read_range(v, &file, 6, 5, &mut part);
     print(rt, &part)?;
     let mut last = [0u8; 5];
     let mut first = [0u8; 5];

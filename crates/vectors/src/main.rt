@@ -1,5 +1,6 @@
 // Published vectors of the building blocks, values of the stock program's tests, and values under keys, nonces and a number that all
 // differ (`second/vectors/distinct.txt`), a line each: what it prints is compared with those values.
+// What a call answers is dropped: a refusal shows in the bytes that it leaves.
 #![tactic(auto)]
 
 mod ctrmac;
@@ -26,8 +27,7 @@ use vault::record::{Combo, Vault, make_vault};
 
 // The vault of two master keys of 32 bytes, with the stock program's threshold.
 fn vault_of(enc: &[u8], mac: &[u8], combo: Combo) -> Vault {
-    let made = make_vault(enc, mac, combo, 220);
-    made.vault
+    make_vault(enc, mac, combo, 220).vault
 }
 
 // The bytes in hex, on a line.
@@ -120,6 +120,7 @@ fn siv(rt: &impl Print) -> io::Result<()> {
 }
 
 // FIPS 180-4's example: the digest of "abc".
+// Kept: a vector each, in turn: this and `sha256` are lines of a test program.
 fn sha1(rt: &impl Print) -> io::Result<()> {
     let mut out = [0u8; 20];
     primitives_sha1(b"abc", &mut out);
@@ -157,10 +158,10 @@ fn text(rt: &impl Print) -> io::Result<()> {
 // A wrapped key, and what it unwraps to.
 fn wrapped(rt: &impl Print, kek: &[u8], key: &[u8]) -> io::Result<()> {
     let mut wrapped = [0u8; 40];
-    wrap_key(kek, key, &mut wrapped);
+    let _ = wrap_key(kek, key, &mut wrapped);
     print(rt, &wrapped)?;
     let mut unwrapped = [0u8; 32];
-    unwrap_key(kek, &wrapped, &mut unwrapped);
+    let _ = unwrap_key(kek, &wrapped, &mut unwrapped);
     print(rt, &unwrapped)?;
     Ok(())
 }
@@ -198,7 +199,7 @@ fn stock_header(rt: &impl Print) -> io::Result<()> {
     let nonce = [0u8; 12];
     let mut header = [0u8; 68];
     let v = vault_of(&zeros, &zeros, Combo::SivGcm);
-    write_header(v, &nonce, &zeros, &mut header);
+    let _ = write_header(v, &nonce, &zeros, &mut header);
     print(rt, &header)?;
     Ok(())
 }
@@ -209,7 +210,7 @@ fn stock_chunk(rt: &impl Print) -> io::Result<()> {
     let nonce = [0u8; 12];
     let mut chunk = [0u8; 39];
     let v = vault_of(&zeros, &zeros, Combo::SivGcm);
-    write_chunk(v, &zeros, &nonce, 0, &nonce, b"hello world", &mut chunk);
+    let _ = write_chunk(v, &zeros, &nonce, 0, &nonce, b"hello world", &mut chunk);
     print(rt, &chunk)?;
     Ok(())
 }
@@ -221,13 +222,13 @@ fn stock_file(rt: &impl Print) -> io::Result<()> {
     let text = b"hello world";
     let mut file = [0u8; 107];
     let v = vault_of(&zeros, &zeros, Combo::SivGcm);
-    write_file(v, &nonce, &zeros, &nonce, text, &mut file);
+    let _ = write_file(v, &nonce, &zeros, &nonce, text, &mut file);
     print(rt, &file)?;
     let mut cleartext = [0u8; 11];
-    open_file(v, &file, &mut cleartext);
+    let _ = open_file(v, &file, &mut cleartext);
     print(rt, &cleartext)?;
     let mut part = [0u8; 5];
-    read_range(v, &file, 6, 5, &mut part);
+    let _ = read_range(v, &file, 6, 5, &mut part);
     print(rt, &part)?;
     let mut last = [0u8; 5];
     let mut first = [0u8; 5];
@@ -242,7 +243,7 @@ fn stock_path(rt: &impl Print) -> io::Result<()> {
     let enc = [0x55u8; 32];
     let mac = [0x77u8; 32];
     let mut out = [0u8; 36];
-    dir_path(vault_of(&enc, &mac, Combo::SivGcm), b"", &mut out);
+    let _ = dir_path(vault_of(&enc, &mac, Combo::SivGcm), b"", &mut out);
     line(rt, &out)?;
     Ok(())
 }
@@ -259,16 +260,16 @@ fn stock_master_key(rt: &impl Print) -> io::Result<()> {
 // The content key and the reserved bytes that a header opens to.
 fn opened_header(rt: &impl Print, v: Vault, header: &[u8]) -> io::Result<()> {
     let mut key = [0u8; 32];
-    let opened = open_header(v, header, &mut key);
+    let reserved = open_header(v, header, &mut key).unwrap_or([0; 8]);
     print(rt, &key)?;
-    print(rt, &opened.reserved)?;
+    print(rt, &reserved)?;
     Ok(())
 }
 
 // A header, and what it opens to; and what the same header with other reserved bytes does.
 fn header(rt: &impl Print, v: Vault, nonce: &[u8], content_key: &[u8]) -> io::Result<()> {
     let mut header = [0u8; 68];
-    write_header(v, nonce, content_key, &mut header);
+    let _ = write_header(v, nonce, content_key, &mut header);
     print(rt, &header)?;
     opened_header(rt, v, &header)?;
     let other =
@@ -283,7 +284,7 @@ fn chunk(rt: &impl Print, v: Vault, content_key: &[u8], header_nonce: &[u8]) -> 
     let nonce = b"\xb0\xb1\xb2\xb3\xb4\xb5\xb6\xb7\xb8\xb9\xba\xbb";
     let text = b"hello world";
     let mut chunk = [0u8; 39];
-    write_chunk(
+    let _ = write_chunk(
         v,
         content_key,
         header_nonce,
@@ -294,7 +295,7 @@ fn chunk(rt: &impl Print, v: Vault, content_key: &[u8], header_nonce: &[u8]) -> 
     );
     print(rt, &chunk)?;
     let mut cleartext = [0u8; 11];
-    open_chunk(v, content_key, header_nonce, number, &chunk, &mut cleartext);
+    let _ = open_chunk(v, content_key, header_nonce, number, &chunk, &mut cleartext);
     print(rt, &cleartext)?;
     Ok(())
 }
@@ -302,7 +303,7 @@ fn chunk(rt: &impl Print, v: Vault, content_key: &[u8], header_nonce: &[u8]) -> 
 // The path of a directory.
 fn path(rt: &impl Print, v: Vault, id: &[u8]) -> io::Result<()> {
     let mut out = [0u8; 36];
-    dir_path(v, id, &mut out);
+    let _ = dir_path(v, id, &mut out);
     line(rt, &out)?;
     Ok(())
 }
@@ -311,22 +312,20 @@ fn path(rt: &impl Print, v: Vault, id: &[u8]) -> io::Result<()> {
 fn name(rt: &impl Print, v: Vault, id: &[u8]) -> io::Result<()> {
     let mut stored = [0u8; 28];
     let mut full = [0u8; 1];
-    write_name(v, b"", b"a", &mut stored, &mut full);
+    let _ = write_name(v, b"", b"a", &mut stored, &mut full);
     line(rt, &stored)?;
-    write_name(v, id, b"a", &mut stored, &mut full);
+    let _ = write_name(v, id, b"a", &mut stored, &mut full);
     line(rt, &stored)?;
     let mut name = [0u8; 1];
-    open_name(v, id, &stored, &mut name);
+    let _ = open_name(v, id, &stored, &mut name);
     line(rt, &name)?;
     Ok(())
 }
 
 // Fills the slice with the alphabet, again and again.
 fn alphabet(out: &mut [u8]) {
-    let mut i = 0;
-    while i < out.len() {
-        out[i] = b'a' + (i % 26) as u8;
-        i += 1;
+    for (i, byte) in out.iter_mut().enumerate() {
+        *byte = b'a' + (i % 26) as u8;
     }
 }
 
@@ -340,10 +339,10 @@ fn long_name(
     opened: &mut [u8],
 ) -> io::Result<()> {
     let mut stored = [0u8; 32];
-    write_name(v, id, name, &mut stored, full);
+    let _ = write_name(v, id, name, &mut stored, full);
     line(rt, &stored)?;
     line(rt, full)?;
-    open_long_name(v, id, &stored, full, opened);
+    let _ = open_long_name(v, id, &stored, full, opened);
     line(rt, opened)?;
     Ok(())
 }

@@ -1,7 +1,7 @@
 -- `char_size`: by its first byte, and the tails behind it.
 -- Assumes nothing.
 use Prim.Native.Nat.{ℕ, ◌+◌, ◌<◌}
-use mathlib.Core.Path.{◌≡◌, refl, sym, ap, ◌∙◌}
+use mathlib.Core.Path.{◌≡◌, sym, ap, ◌∙◌}
 use mathlib.Core.Bool.{true, false, ◌&&◌}
 use mathlib.Core.List.{List, ◌∷◌}
 use mathlib.Core.Option.{none, some}
@@ -9,14 +9,12 @@ use native.Mathlib.Numerals.{add-one}
 use native.Mathlib.Omega.{arith}
 use lib.ListN.{length, drop, get_or}
 use lib.Seq.{drop-cons, drop-drop}
-use borrow.Author.Tests.{not-true, not-false}
 use Rattle.utf8.specs.Utf8.{well_formed}
 use Rattle.utf8.specs.Character.{character}
-use Rattle.utf8.specs.ProperText.{lacks}
 use Rattle.utf8.specs.Continued.{tails_from, goes_on}
 use Rattle.utf8.specs.declared.Awaited.{Awaited}
 use Rattle.utf8.proofs.FirstByte.{behind_one}
-use Rattle.utf8.proofs.FirstCharacter.{continued_tails, ascii, there, nowhere}
+use Rattle.utf8.proofs.FirstCharacter.{continued_tails, ascii, unread, there, nowhere}
 use Rattle.utf8.proofs.char_size.Goals as goal
 
 module _ (s : List ℕ) (i : ℕ) (h : i < length s) where
@@ -28,6 +26,9 @@ module _ (s : List ℕ) (i : ℕ) (h : i < length s) where
 
   one_read : get_or s i 0 < 0x80 → (c : ℕ) × (character (drop i s) ≡ some (c, drop (i + 1) s))
   one_read l = (get_or s i 0, ap character here ∙ ascii (get_or s i 0) (drop (i + 1) s) l)
+
+  nothing : ((t : List ℕ) → well_formed (get_or s i 0 ∷ t) ≡ false) → (character (drop i s) ≡ none) × (well_formed (drop i s) ≡ false)
+  nothing f = (ap character here ∙ unread (get_or s i 0) (drop (i + 1) s) f, ap well_formed here ∙ f (drop (i + 1) s))
 
   module _ (w : Awaited) (f : (t : List ℕ) → well_formed (get_or s i 0 ∷ t) ≡ goes_on w t) where
     formed : well_formed (drop i s) ≡ (tails_from w.tails w.low w.high (drop (i + 1) s) && well_formed (drop w.tails (drop (i + 1) s)))
@@ -48,26 +49,21 @@ module _ (s : List ℕ) (i : ℕ) (h : i < length s) where
           let k = there (get_or s i 0) w.tails w.low w.high (drop (i + 1) s) f e in
           (k.0, ap character here ∙ k.1 ∙ ap (λ (r : List ℕ). some (k.0, r)) behind_them)
 
-pub returns-then-b-lt128 : goal.returns-then-b-lt128
-returns-then-b-lt128 c = record { s_value = λ e. absurd (omega arith); result_in_bounds = λ h. (omega (arith, c.requires), λ b l. refl); s_value_2 = λ h. one_formed c.args.s.now c.args.i c.requires (omega arith); by_index = λ h. one_read c.args.s.now c.args.i c.requires (omega arith) }
+pub returns-then-b-lt128-clause-s_value_2 : goal.returns-then-b-lt128-clause-s_value_2
+returns-then-b-lt128-clause-s_value_2 c = one_formed c.args.s.now c.args.i c.requires (omega arith)
 
-pub tails_at-requires : goal.tails_at-requires
-tails_at-requires c = (omega (arith, c.requires), c.behind-w.ensures.1)
+pub returns-then-b-lt128-clause-by_index : goal.returns-then-b-lt128-clause-by_index
+returns-then-b-lt128-clause-by_index c = one_read c.args.s.now c.args.i c.requires (omega arith)
 
-pub returns-then-not-tails_at : goal.returns-then-not-tails_at
-returns-then-not-tails_at c =
-    let t = c.tails_at in
-    let w = c.behind-w in
-    let no : t.result ≡ false = not-true _ c.if-not-tails_at.true-raw in record { s_value = λ e. broken c.args.s.now c.args.i c.requires w.result w.ensures.0 (sym t.ensures.value ∙ no); result_in_bounds = λ h. absurd (omega arith); s_value_2 = λ h. absurd (omega arith); by_index = λ h. absurd (omega arith) }
+pub returns-in_err-w-clause-s_value : goal.returns-in_err-w-clause-s_value
+returns-in_err-w-clause-s_value c = rw c.from_residual.ensures (nothing c.args.s.now c.args.i c.requires c.in_err-w.ensures.tails)
 
-pub returns : goal.returns
-returns c =
-    let s = c.args.s.now in
-    let i = c.args.i in
-    let t = c.tails_at in
-    let w = c.behind-w in
-    let n = w.result.tails in
-    let yes : t.result ≡ true = not-false _ c.if-not-tails_at.false-raw in
-    let right : tails_from n w.result.low w.result.high (drop (i + 1) s) ≡ true = sym t.ensures.value ∙ yes in
-    let went = t.ensures.tails_in_bounds yes in
-    let p : i + 1 + n ≡ i + (1 + n) = omega arith in record { s_value = λ e. absurd (omega arith); result_in_bounds = λ h. (omega (arith, went.0), λ b l. went.1 b l ∙ ap (λ (j : ℕ). lacks b (drop j s)) p); s_value_2 = λ h. whole s i c.requires w.result w.ensures.0 right; by_index = λ h. read s i c.requires w.result w.ensures.0 right }
+pub returns-then-not-tails_at-clause-s_value : goal.returns-then-not-tails_at-clause-s_value
+returns-then-not-tails_at-clause-s_value c =
+    broken c.args.s.now c.args.i c.requires c.in_ok-w.w c.in_ok-w.ensures.tails (sym c.tails_at.ensures.value ∙ c.if-not-tails_at.true)
+
+pub returns-clause-s_value_2 : goal.returns-clause-s_value_2
+returns-clause-s_value_2 c = whole c.args.s.now c.args.i c.requires c.in_ok-w.w c.in_ok-w.ensures.tails (sym c.tails_at.ensures.value ∙ c.if-not-tails_at.false)
+
+pub returns-clause-by_index : goal.returns-clause-by_index
+returns-clause-by_index c = read c.args.s.now c.args.i c.requires c.in_ok-w.w c.in_ok-w.ensures.tails (sym c.tails_at.ensures.value ∙ c.if-not-tails_at.false)

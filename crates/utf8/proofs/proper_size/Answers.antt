@@ -13,6 +13,16 @@ use Rattle.utf8.specs.Utf8.{well_formed}
 use Rattle.utf8.specs.ProperText.{lacks, proper_text}
 use Rattle.utf8.specs.Continued.{Passed}
 use Rattle.utf8.proofs.proper_size.Goals as goal
+use Rattle.utf8.proofs.proper_size.Goals.{then-b-eq0-via-then-b-eq0, then-b-eq0-via-else-b-eq0+then-b-eq47}
+use Rattle.std.proofs.Common.{Option, Some, None, IfNone, IfSome}
+
+no_more : {P Q : Type 0} (o : Option ℕ) → IfNone o P → (P → Q) → IfNone o Q
+no_more None p f = f p
+no_more (Some n) p f = tt
+
+both : {P Q R : ℕ → Type 0} (o : Option ℕ) → IfSome o P → IfSome o Q → ((n : ℕ) → P n → Q n → R n) → IfSome o R
+both None p q f = tt
+both (Some n) p q f = f n p q
 
 module _ (s : List ℕ) (i : ℕ) (h : i < length s) where
   here : drop i s ≡ get_or s i 0 ∷ drop (i + 1) s
@@ -39,17 +49,19 @@ module _ (s : List ℕ) (i : ℕ) (h : i < length s) where
     unfolding proper_text
     whole j e p = first ∙ rw (e, p 0x00 (omega arith), p 0x2f (omega arith))
 
-pub returns-then-b-eq0 : goal.returns-then-b-eq0
-returns-then-b-eq0 c = record { s_value = λ e. zero_at c.args.s.now c.args.i c.requires (omega arith); result_in_bounds = λ h. absurd (omega arith) }
+pub returns-then-b-eq0-clause-s_value : goal.returns-then-b-eq0-clause-s_value
+returns-then-b-eq0-clause-s_value c =
+    elim c.then-b-eq0.branch [
+      | then-b-eq0-via-then-b-eq0 w ↦ zero_at c.args.s.now c.args.i c.requires (omega arith)
+      | then-b-eq0-via-else-b-eq0+then-b-eq47 w ↦ slash-at c.args.s.now c.args.i c.requires (omega arith)
+    ]
 
-pub returns-then-b-eq47 : goal.returns-then-b-eq47
-returns-then-b-eq47 c = record { s_value = λ e. slash-at c.args.s.now c.args.i c.requires (omega arith); result_in_bounds = λ h. absurd (omega arith) }
+pub returns-clause-s_value : goal.returns-clause-s_value
+returns-clause-s_value c = no_more c.char_size.result c.char_size.ensures.s_value (λ p. broken c.args.s.now c.args.i c.requires (λ z. omega arith) (λ z. omega arith) p.1)
 
-pub char_size-requires : goal.char_size-requires
-char_size-requires c = c.requires
-
-pub returns : goal.returns
-returns c =
+pub returns-clause-result_in_bounds : goal.returns-clause-result_in_bounds
+returns-clause-result_in_bounds c =
     let s = c.args.s.now in
     let i = c.args.i in
-    let r = c.char_size in record { s_value = λ e. broken s i c.requires (λ z. omega arith) (λ z. omega arith) (r.ensures.s_value e).1; result_in_bounds = λ h. ((r.ensures.result_in_bounds h).0, whole s i c.requires (λ z. omega arith) (λ z. omega arith) (i + r.result) (r.ensures.s_value_2 h) (r.ensures.result_in_bounds h).1) }
+    both c.char_size.result c.char_size.ensures.result_in_bounds c.char_size.ensures.s_value_2
+    (λ n p q. (p.0, p.1, whole s i c.requires (λ z. omega arith) (λ z. omega arith) (i + n) q p.2))

@@ -14,6 +14,7 @@ use Rattle.utf8.specs.ProperText.{lacks}
 use Rattle.utf8.specs.Continued.{tails_from, Passed}
 use Rattle.utf8.proofs.Ranges.{ranged, under, over}
 use Rattle.utf8.proofs.tails_at.Goals as goal
+use Rattle.utf8.proofs.tails_at.Goals.{then-b-low-via-then-b-low, then-b-low-via-else-b-low+then-high-b}
 
 -- There are fewer bytes than tails awaited.
 short : (n lo hi : ℕ) (t : List ℕ) → length t < n → tails_from n lo hi t ≡ false
@@ -52,31 +53,15 @@ returns-then-s-j c =
     let x = c.args in
     let l = length-drop x.j x.s.now in record { value = sym (short x.w.tails x.w.low x.w.high (drop x.j x.s.now) (omega (arith, l))); tails_in_bounds = λ e. absurd (true_false (sym e)) }
 
-pub loop-k-init : goal.loop-k-init
-loop-k-init c =
-    let x = c.args in
-    let n = x.w.tails in
-    let m : n ≡ n - 0 = omega arith in
-    let p : x.j ≡ x.j + 0 = omega arith in (
-      omega arith,
-      omega arith,
-      c.requires.1,
-      ap₂ (λ (m p : ℕ). tails_from m x.w.low x.w.high (drop p x.s.now)) m p,
-      λ b h. ap (λ (p : ℕ). lacks b (drop p x.s.now)) p,
-    )
-
-pub bounds-s-j : goal.bounds-s-j
-bounds-s-j c = omega arith
-
 pub returns-then-b-low : goal.returns-then-b-low
 returns-then-b-low c =
     let x = c.args in
-    let l = c.loop-k in record { value = sym (l.invariant.3 ∙ too_low x.s.now (x.j + l.k) (x.w.tails - l.k) l.low l.high (omega arith) (omega arith) (omega arith)); tails_in_bounds = λ e. absurd (true_false (sym e)) }
-
-pub returns-then-high-b : goal.returns-then-high-b
-returns-then-high-b c =
-    let x = c.args in
-    let l = c.loop-k in record { value = sym (l.invariant.3 ∙ too_high x.s.now (x.j + l.k) (x.w.tails - l.k) l.low l.high (omega arith) (omega arith) (omega arith)); tails_in_bounds = λ e. absurd (true_false (sym e)) }
+    let l = c.loop-k in
+    let no : tails_from (x.w.tails - l.k) l.low l.high (drop (x.j + l.k) x.s.now) ≡ false =
+    elim c.then-b-low.branch [
+      | then-b-low-via-then-b-low w ↦ too_low x.s.now (x.j + l.k) (x.w.tails - l.k) l.low l.high (omega arith) (omega arith) (omega arith)
+      | then-b-low-via-else-b-low+then-high-b w ↦ too_high x.s.now (x.j + l.k) (x.w.tails - l.k) l.low l.high (omega arith) (omega arith) (omega arith)
+    ] in record { value = sym (l.invariant.2 ∙ no); tails_in_bounds = λ e. absurd (true_false (sym e)) }
 
 pub loop-k-preserved : goal.loop-k-preserved
 loop-k-preserved c =
@@ -87,11 +72,10 @@ loop-k-preserved c =
     let h : x.j + l.k < length s = omega arith in
     let m : n - l.k - 1 ≡ n - (l.k + 1) = omega arith in
     let p : x.j + l.k + 1 ≡ x.j + (l.k + 1) = omega arith in (
+      l.invariant.0,
       omega arith,
-      l.invariant.1,
-      omega arith,
-      l.invariant.3 ∙ one_on s (x.j + l.k) (n - l.k) l.low l.high h (omega arith) (omega arith) (omega arith) ∙ ap₂ (λ (m p : ℕ). tails_from m 0x80 0xbf (drop p s)) m p,
-      λ b k. l.invariant.4 b k ∙ passed s (x.j + l.k) h (omega (arith, l.invariant.2)) b k ∙ ap (λ (p : ℕ). lacks b (drop p s)) p,
+      l.invariant.2 ∙ one_on s (x.j + l.k) (n - l.k) l.low l.high h (omega arith) (omega arith) (omega arith) ∙ ap₂ (λ (m p : ℕ). tails_from m 0x80 0xbf (drop p s)) m p,
+      λ b k. l.invariant.3 b k ∙ passed s (x.j + l.k) h (omega (arith, l.invariant.1)) b k ∙ ap (λ (p : ℕ). lacks b (drop p s)) p,
     )
 
 pub returns : goal.returns
@@ -102,4 +86,4 @@ returns c =
     let n = x.w.tails in
     let s = x.s.now in
     let m : n - l.k ≡ 0 = omega arith in
-    let p : x.j + l.k ≡ x.j + n = omega arith in record { value = sym (l.invariant.3 ∙ ap (λ (m : ℕ). tails_from m l.low l.high (drop (x.j + l.k) s)) m); tails_in_bounds = λ e. (l.invariant.1, λ b h. l.invariant.4 b h ∙ ap (λ (p : ℕ). lacks b (drop p s)) p) }
+    let p : x.j + l.k ≡ x.j + n = omega arith in record { value = sym (l.invariant.2 ∙ ap (λ (m : ℕ). tails_from m l.low l.high (drop (x.j + l.k) s)) m); tails_in_bounds = λ e. (l.invariant.0, λ b h. l.invariant.3 b h ∙ ap (λ (p : ℕ). lacks b (drop p s)) p) }

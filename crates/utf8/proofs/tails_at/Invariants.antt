@@ -7,7 +7,8 @@ use Rattle.utf8.specs.Continued.{tails_from, Passed}
 use Rattle.utf8.proofs.tails_at.Given as goal
 
 abbrev pub invariant-loop-k : goal.invariant-loop-k
-invariant-loop-k l = (l.k ≤ l.n) × (l.j + l.n ≤ length l.s) × (0x80 ≤ l.low) × (tails_from l.n l.initial.low l.initial.high (drop l.j l.s) ≡ tails_from (l.n - l.k) l.low l.high (drop (l.j + l.k) l.s)) × Passed l.s l.j (l.j + l.k)
-
-abbrev pub decreases-loop-k : goal.decreases-loop-k
-decreases-loop-k l = l.n - l.k
+invariant-loop-k l =
+    (l.j + l.n ≤ length l.s)
+    × (0x80 ≤ l.low)
+    × (tails_from l.n l.initial.low l.initial.high (drop l.j l.s) ≡ tails_from (l.n - l.k) l.low l.high (drop (l.j + l.k) l.s))
+    × Passed l.s l.j (l.j + l.k)

@@ -8,6 +8,6 @@ pub returns-then-n-eq1 : goal.returns-then-n-eq1
 unfolding combo_of
 returns-then-n-eq1 c = rw (eq-eqb _ _ c.if-n-eq1.true)
 
-pub returns : goal.returns
+pub returns-else-n-eq1 : goal.returns-else-n-eq1
 unfolding combo_of
-returns c = rw (ne_eqb _ _ c.if-n-eq1.false)
+returns-else-n-eq1 c = rw (ne_eqb _ _ c.if-n-eq1.false)

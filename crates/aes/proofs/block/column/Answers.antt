@@ -13,4 +13,4 @@ returns c =
     (subst (Entry c.entry-2.result) c.byte1.ensures c.entry-2.ensures.0)
     (subst (Entry c.entry-3.result) c.byte2.ensures c.entry-3.ensures.0)
     (subst (Entry c.entry-4.result) c.byte3.ensures c.entry-4.ensures.0)
-    c.right8.ensures c.right16.ensures c.right24.ensures
+    c.rotated_sum.ensures

@@ -8,5 +8,5 @@ use Rattle.aes_inverse.proofs.unmix.times_x.Goals as goal
 pub returns-then-b-lt128 : goal.returns-then-b-lt128
 returns-then-b-lt128 c = times_x_low c.args.b (omega arith)
 
-pub returns : goal.returns
-returns c = times_x_high c.args.b (omega arith) (search rules)
+pub returns-else-b-lt128 : goal.returns-else-b-lt128
+returns-else-b-lt128 c = times_x_high c.args.b (omega arith) (search rules)

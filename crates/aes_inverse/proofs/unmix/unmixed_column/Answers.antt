@@ -13,4 +13,4 @@ returns c =
     (subst (Multiples c.multiples-2.result) c.byte1.ensures c.multiples-2.ensures)
     (subst (Multiples c.multiples-3.result) c.byte2.ensures c.multiples-3.ensures)
     (subst (Multiples c.multiples-4.result) c.byte3.ensures c.multiples-4.ensures)
-    c.right8.ensures c.right16.ensures c.right24.ensures
+    c.rotated_sum.ensures

@@ -9,15 +9,6 @@ use Rattle.check_line.specs.Line.{decimal}
 use Rattle.octets.proofs.Lists.{placed-placed}
 use Rattle.check_line.proofs.line.put_field.Goals as goal
 
-pub copy_at-requires : goal.copy_at-requires
-copy_at-requires c = omega (arith, c.requires, length-append c.args.text.now (decimal c.args.n))
-
-pub overflow_add-at : goal.overflow_add-at
-overflow_add-at c = record { fits = omega (arith, c.requires, c.well_formed.1.1.0.0, length-append c.args.text.now (decimal c.args.n)) }
-
-pub put_decimal-requires : goal.put_decimal-requires
-put_decimal-requires c = omega (arith, c.requires, c.copy_at.auto.dst, length-append c.args.text.now (decimal c.args.n))
-
 pub returns : goal.returns
 returns c =
     let x = c.args in

@@ -1,34 +1,9 @@
 -- `write_refused_at`: its three pieces, one after the other.
 -- Assumes nothing.
 use mathlib.Core.List.{◌++◌}
-use native.Mathlib.Omega.{arith}
 use Rattle.check_line.specs.Line.{decimal, refused_text, at_text, line_end, refused_at_line}
-use Rattle.check_line.proofs.Pieces.{three, length_three}
+use Rattle.check_line.proofs.Pieces.{three}
 use Rattle.check_line.proofs.line.write_refused_at.Goals as goal
-
-pub put_field-a-requires : goal.put_field-a-requires
-unfolding refused_at_line
-put_field-a-requires c = omega (arith, c.requires, length_three (refused_text ++ decimal c.args.row) (at_text ++ decimal c.args.i) line_end)
-
-pub put_field-b-requires : goal.put_field-b-requires
-unfolding refused_at_line
-put_field-b-requires c =
-    let u = c.put_field-a in
-    omega (arith, c.requires, u.ensures.0, u.auto.line, length_three (refused_text ++ decimal c.args.row) (at_text ++ decimal c.args.i) line_end)
-
-pub copy_at-requires : goal.copy_at-requires
-unfolding refused_at_line
-copy_at-requires c =
-    let u = c.put_field-a in
-    let v = c.put_field-b in
-    omega (arith, c.requires, u.ensures.0, u.auto.line, v.ensures.0, v.auto.line, length_three (refused_text ++ decimal c.args.row) (at_text ++ decimal c.args.i) line_end)
-
-pub overflow_add-result : goal.overflow_add-result
-unfolding refused_at_line
-overflow_add-result c =
-    let u = c.put_field-a in
-    let v = c.put_field-b in
-    record { fits = omega (arith, c.requires, c.well_formed.1.1.0.0, u.ensures.0, v.ensures.0, length_three (refused_text ++ decimal c.args.row) (at_text ++ decimal c.args.i) line_end) }
 
 pub returns : goal.returns
 unfolding refused_at_line

@@ -3,7 +3,6 @@
 use Prim.Native.Nat.{ℕ}
 use mathlib.Core.Path.{sym, ap, ◌∙◌}
 use mathlib.Core.List.{[], ◌∷◌}
-use borrow.Author.Tests.{not-true, not-false}
 use Rattle.octets.specs.Rows.{done}
 use Rattle.octets.proofs.Equality.{true_false}
 use Rattle.frame.proofs.Rules.{length_exactly}
@@ -15,12 +14,12 @@ pub returns-then-not-right_length : goal.returns-then-not-right_length
 returns-then-not-right_length c =
     let x = c.args in
     let z = sizes_of x.v.combo in
-    let wrong = sym c.right_length.ensures ∙ not-true _ c.if-not-right_length.true-raw in
+    let wrong = sym c.right_length.ensures ∙ c.if-not-right_length.true in
     sym (((lengths_exactly z).1 x.l).0.1 (tt, λ f. true_false (sym ((length_exactly z x.l).1 f) ∙ wrong)))
 
 pub returns : goal.returns
 returns c =
     let x = c.args in
     let z = sizes_of x.v.combo in
-    let right = sym c.right_length.ensures ∙ not-false _ c.if-not-right_length.false-raw in
+    let right = sym c.right_length.ensures ∙ c.if-not-right_length.false in
     ap (λ (m : ℕ). done (m ∷ [])) c.clear_length.ensures ∙ sym (((lengths_exactly z).1 x.l).1.1 (tt, (length_exactly z x.l).0 right))

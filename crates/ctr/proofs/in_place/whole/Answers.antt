@@ -1,19 +1,10 @@
 -- `whole`: word by word, each to its place. A word that is read later still stands as it was.
 -- Assumes nothing.
-use Rattle.std.proofs.Common.{ap, ◌∙◌, arith}
+use Rattle.std.proofs.Common.{ap, ◌∙◌}
 use Rattle.octets.specs.Words.{word_bytes}
 use Rattle.octets.specs.Xors.{xors}
 use Rattle.ctr.proofs.WholeBlocks.{xor_block_in_place}
 use Rattle.ctr.proofs.in_place.whole.Goals as goal
-
-pub put_word-requires-3 : goal.put_word-requires-3
-put_word-requires-3 c = omega (arith, c.requires.in_bounds, c.text-1.given, c.text-2-1.given)
-
-pub word_at-requires-3 : goal.word_at-requires-3
-word_at-requires-3 c = omega (arith, c.requires.in_bounds, c.text-1.given, c.text-2-1.given, c.text-3-1.given)
-
-pub put_word-requires-4 : goal.put_word-requires-4
-put_word-requires-4 c = omega (arith, c.requires.in_bounds, c.text-1.given, c.text-2-1.given, c.text-3-1.given)
 
 pub returns : goal.returns
 unfolding word_bytes

@@ -4,6 +4,6 @@ use mathlib.Core.Path.{refl}
 use Rattle.encoding.specs.Base64url.{alphabet}
 use Rattle.encoding.proofs.alphabet.letters.Goals as goal
 
-pub returns : goal.returns
+pub invariant_of-result : goal.invariant_of-result
 unfolding alphabet
-returns c = refl
+invariant_of-result c = record { standard = refl }

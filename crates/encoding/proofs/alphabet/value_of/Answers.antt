@@ -5,4 +5,4 @@ use Rattle.encoding.proofs.Characters.{table_at}
 use Rattle.encoding.proofs.alphabet.value_of.Goals as goal
 
 pub returns : goal.returns
-returns c = rw c.requires (table_at c.args.c (search rules))
+returns c = rw c.args.t.now.standard (table_at c.args.c (search rules))

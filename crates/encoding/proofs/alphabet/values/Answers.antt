@@ -5,6 +5,6 @@ use Rattle.encoding.specs.Base64url.{alphabet, place, value}
 use Rattle.encoding.specs.ValueTable.{values_from, value_table}
 use Rattle.encoding.proofs.alphabet.values.Goals as goal
 
-pub returns : goal.returns
+pub invariant_of-result : goal.invariant_of-result
 unfolding alphabet place value values_from value_table
-returns c = refl
+invariant_of-result c = record { standard = refl }

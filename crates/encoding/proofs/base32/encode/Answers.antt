@@ -15,7 +15,7 @@ use Rattle.encoding.proofs.base32.encode.Goals as goal
 
 pub loop-i-init : goal.loop-i-init
 unfolding encode quintets
-loop-i-init c = (search rules, refl, refl)
+loop-i-init c = (refl, refl)
 
 pub encode_group-requires : goal.encode_group-requires
 encode_group-requires c = record { t_value = c.letters-t.ensures; in_bounds = search rules }
@@ -27,9 +27,8 @@ loop-i-preserved c =
     let s = x.bytes.now in
     let g : take 5 (drop (5 * l.i) s) ≡ get_or s (5 * l.i) 0 ∷ get_or s (5 * l.i + 1) 0 ∷ get_or s (5 * l.i + 2) 0 ∷ get_or s (5 * l.i + 3) 0 ∷ get_or s (5 * l.i + 4) 0 ∷ [] =
     part-tab s (5 * l.i) 5 (omega arith) ∙ simp (get_or-drop, add-zero) in (
-      omega arith,
-      c.out-1.given.1 ∙ l.invariant.1,
-      group_more encode 5 8 encode_groups s x.out.now l.out _ l.i l.invariant.2 encode-append _ (sym g) (omega arith) c.encode_group.ensures,
+      c.out-1.given.1 ∙ l.invariant.0,
+      group_more encode 5 8 encode_groups s x.out.now l.out _ l.i l.invariant.1 encode-append _ (sym g) (omega arith) c.encode_group.ensures,
     )
 
 pub returns : goal.returns
@@ -40,4 +39,4 @@ returns c =
     let e : length s ≡ 5 * l.i = omega arith in
     let f : take (5 * l.i) s ≡ s = take_all (5 * l.i) s (omega arith) in
     let g : 8 * l.i ≡ 0 + length (encode s) = omega (arith, encode_groups s l.i e) in
-    l.invariant.2 ∙ rw (f, g)
+    l.invariant.1 ∙ rw (f, g)

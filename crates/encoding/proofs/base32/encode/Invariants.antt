@@ -1,6 +1,5 @@
 -- `encode`: after i turns i groups are written.
 -- Assumes nothing.
-use Prim.Native.Nat.{◌-◌, ◌≤◌}
 use mathlib.Core.Path.{◌≡◌}
 use lib.ListN.{length}
 use Rattle.encoding.specs.Base32.{encode}
@@ -8,7 +7,4 @@ use Rattle.encoding.proofs.Groups.{written}
 use Rattle.encoding.proofs.base32.encode.Given as goal
 
 abbrev pub invariant-loop-i : goal.invariant-loop-i
-invariant-loop-i l = (l.i ≤ l.n) × (length l.out ≡ length l.initial.out) × (l.out ≡ written encode 5 8 l.bytes l.initial.out l.i)
-
-abbrev pub decreases-loop-i : goal.decreases-loop-i
-decreases-loop-i l = l.n - l.i
+invariant-loop-i l = (length l.out ≡ length l.initial.out) × (l.out ≡ written encode 5 8 l.bytes l.initial.out l.i)

@@ -10,47 +10,23 @@ use Rattle.octets.specs.Bytes.{placed}
 use Rattle.encoding.proofs.Quintets.{five_bytes}
 use Rattle.encoding.proofs.base32.encode_group.Goals as goal
 
-pub letter_of-requires : goal.letter_of-requires
-letter_of-requires c = record { t_value = c.requires.t_value; v_bound = omega arith }
-
-pub letter_of-requires-2 : goal.letter_of-requires-2
-letter_of-requires-2 c = record { t_value = c.requires.t_value; v_bound = omega arith }
-
 pub bounds-out-1 : goal.bounds-out-1
 bounds-out-1 c = simp length-set (omega arith)
-
-pub letter_of-requires-3 : goal.letter_of-requires-3
-letter_of-requires-3 c = record { t_value = c.requires.t_value; v_bound = omega arith }
 
 pub bounds-out-2 : goal.bounds-out-2
 bounds-out-2 c = simp length-set (omega arith)
 
-pub letter_of-requires-4 : goal.letter_of-requires-4
-letter_of-requires-4 c = record { t_value = c.requires.t_value; v_bound = omega arith }
-
 pub bounds-out-3 : goal.bounds-out-3
 bounds-out-3 c = simp length-set (omega arith)
-
-pub letter_of-requires-5 : goal.letter_of-requires-5
-letter_of-requires-5 c = record { t_value = c.requires.t_value; v_bound = omega arith }
 
 pub bounds-out-4 : goal.bounds-out-4
 bounds-out-4 c = simp length-set (omega arith)
 
-pub letter_of-requires-6 : goal.letter_of-requires-6
-letter_of-requires-6 c = record { t_value = c.requires.t_value; v_bound = omega arith }
-
 pub bounds-out-5 : goal.bounds-out-5
 bounds-out-5 c = simp length-set (omega arith)
 
-pub letter_of-requires-7 : goal.letter_of-requires-7
-letter_of-requires-7 c = record { t_value = c.requires.t_value; v_bound = omega arith }
-
 pub bounds-out-6 : goal.bounds-out-6
 bounds-out-6 c = simp length-set (omega arith)
-
-pub letter_of-requires-8 : goal.letter_of-requires-8
-letter_of-requires-8 c = record { t_value = c.requires.t_value; v_bound = omega arith }
 
 pub bounds-out-7 : goal.bounds-out-7
 bounds-out-7 c = simp length-set (omega arith)
@@ -61,4 +37,4 @@ shape_of-out c = simp length-set
 pub returns : goal.returns
 returns c =
     let x = c.args in
-    sets-eq (c.letter_of.result ∷ c.letter_of-2.result ∷ c.letter_of-3.result ∷ c.letter_of-4.result ∷ c.letter_of-5.result ∷ c.letter_of-6.result ∷ c.letter_of-7.result ∷ c.letter_of-8.result ∷ []) x.out.now 0 c.requires.in_bounds ∙ ap (λ (l : List ℕ). placed l 0 x.out.now) (five_bytes x.a x.b x.c x.d x.e c.letter_of.ensures c.letter_of-2.ensures c.letter_of-3.ensures c.letter_of-4.ensures c.letter_of-5.ensures c.letter_of-6.ensures c.letter_of-7.ensures c.letter_of-8.ensures)
+    sets-eq (c.letter_of.result ∷ c.letter_of-2.result ∷ c.letter_of-3.result ∷ c.letter_of-4.result ∷ c.letter_of-5.result ∷ c.letter_of-6.result ∷ c.letter_of-7.result ∷ c.letter_of-8.result ∷ []) x.out.now 0 c.requires.in_bounds ∙ ap (λ (l : List ℕ). placed l 0 x.out.now) (five_bytes _ c.requires.t_value x.a x.b x.c x.d x.e c.letter_of.ensures c.letter_of-2.ensures c.letter_of-3.ensures c.letter_of-4.ensures c.letter_of-5.ensures c.letter_of-6.ensures c.letter_of-7.ensures c.letter_of-8.ensures)

@@ -21,23 +21,22 @@ known-rest t k h = rw (part-rest t (length t) k refl) (known-drop k t h)
 
 pub loop-i-init : goal.loop-i-init
 unfolding octets
-loop-i-init c = (search rules, refl, refl)
+loop-i-init c = (refl, refl)
 
 pub decode_four-requires : goal.decode_four-requires
-decode_four-requires c = record { t_value = c.values-t.ensures; text_value = known-rest _ _ c.requires.text_value; in_bounds = search rules }
+decode_four-requires c = record { text_value = known-rest _ _ c.requires.text_value; in_bounds = search rules }
 
 pub loop-i-preserved : goal.loop-i-preserved
 loop-i-preserved c =
     let l = c.loop-i in
     let x = c.args in
     let t = x.text.now in (
-      omega arith,
-      c.out-1.given.1 ∙ l.invariant.1,
-      group_more bytes_of 4 3 bytes_groups t x.out.now l.out _ l.i l.invariant.2 bytes-append _ (ap (take 4) (part-rest t (length t) (4 * l.i) refl)) (omega arith) c.decode_four.ensures,
+      c.out-1.given.1 ∙ l.invariant.0,
+      group_more bytes_of 4 3 bytes_groups t x.out.now l.out _ l.i l.invariant.1 bytes-append _ (ap (take 4) (part-rest t (length t) (4 * l.i) refl)) (omega arith) c.decode_four.ensures,
     )
 
 pub decode_end-requires : goal.decode_end-requires
-decode_end-requires c = record { t_value = c.values-t.ensures; text_value = known-rest _ _ c.requires.text_value; text_len_bound = search rules }
+decode_end-requires c = record { text_value = known-rest _ _ c.requires.text_value; text_len_bound = search rules }
 
 pub returns : goal.returns
 returns c =
@@ -46,5 +45,5 @@ returns c =
     let t = x.text.now in
     let n = length t / 4 in
     let e : l.i ≡ n = omega arith in
-    group_end bytes_of 4 3 bytes_groups t x.out.now l.out _ n (l.invariant.2 ∙ ap (written bytes_of 4 3 t x.out.now) e) bytes_of bytes-append (omega arith)
+    group_end bytes_of 4 3 bytes_groups t x.out.now l.out _ n (l.invariant.1 ∙ ap (written bytes_of 4 3 t x.out.now) e) bytes_of bytes-append (omega arith)
     (c.decode_end.ensures ∙ ap (λ (b : List ℕ). placed (bytes_of b) 0 (take (length l.out - 3 * n) (drop (3 * n) l.out))) (part-rest t (length t) (4 * n) refl))

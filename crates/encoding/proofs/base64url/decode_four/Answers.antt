@@ -11,16 +11,16 @@ use Rattle.encoding.proofs.Texts.{four_characters}
 use Rattle.encoding.proofs.base64url.decode_four.Goals as goal
 
 pub value_at-p-requires : goal.value_at-p-requires
-value_at-p-requires c = record { t_value = c.requires.t_value; text_value = (c.requires.text_value, omega arith) }
+value_at-p-requires c = record { text_value = (c.requires.text_value, omega arith) }
 
 pub value_at-q-requires : goal.value_at-q-requires
-value_at-q-requires c = record { t_value = c.requires.t_value; text_value = (c.requires.text_value, omega arith) }
+value_at-q-requires c = record { text_value = (c.requires.text_value, omega arith) }
 
 pub value_at-r-requires : goal.value_at-r-requires
-value_at-r-requires c = record { t_value = c.requires.t_value; text_value = (c.requires.text_value, omega arith) }
+value_at-r-requires c = record { text_value = (c.requires.text_value, omega arith) }
 
 pub value_at-s-requires : goal.value_at-s-requires
-value_at-s-requires c = record { t_value = c.requires.t_value; text_value = (c.requires.text_value, omega arith) }
+value_at-s-requires c = record { text_value = (c.requires.text_value, omega arith) }
 
 pub bounds-out-1 : goal.bounds-out-1
 bounds-out-1 c = simp length-set (omega arith)

@@ -20,10 +20,10 @@ pub loop-i-init : goal.loop-i-init
 unfolding encode pad sextets
 loop-i-init c =
     let h = (room c.args.padded (length c.args.bytes.now) _ (length c.args.out.now) refl c.requires).0 in
-    (search rules, omega arith, refl, refl)
+    (omega arith, refl, refl)
 
 pub encode_three-requires : goal.encode_three-requires
-encode_three-requires c = record { t_value = c.letters-t.ensures; in_bounds = search rules }
+encode_three-requires c = record { in_bounds = search rules }
 
 pub loop-i-preserved : goal.loop-i-preserved
 loop-i-preserved c =
@@ -33,9 +33,8 @@ loop-i-preserved c =
     let g : take 3 (drop (3 * l.i) s) ≡ get_or s (3 * l.i) 0 ∷ get_or s (3 * l.i + 1) 0 ∷ get_or s (3 * l.i + 2) 0 ∷ [] =
     part-tab s (3 * l.i) 3 (omega arith) ∙ simp (get_or-drop, add-zero) in (
       omega arith,
-      omega arith,
-      c.out-1.given.1 ∙ l.invariant.2,
-      group_more (encode false) 3 4 encode_groups s x.out.now l.out _ l.i l.invariant.3 (encode-append false) _ (sym g) (omega arith) c.encode_three.ensures,
+      c.out-1.given.1 ∙ l.invariant.1,
+      group_more (encode false) 3 4 encode_groups s x.out.now l.out _ l.i l.invariant.2 (encode-append false) _ (sym g) (omega arith) c.encode_three.ensures,
     )
 
 pub encode_end-requires : goal.encode_end-requires
@@ -45,7 +44,7 @@ encode_end-requires c =
     let n = length b / 3 in
     let e : length (take (length b - 3 * n) (drop (3 * n) b)) ≡ length b - 3 * n = ap length (part-rest b (length b) (3 * n) refl) ∙ length-drop (3 * n) b in
     let f : length (take (length l.out - 4 * n) (drop (4 * n) l.out)) ≡ length c.args.out.now - 4 * n =
-    ap length (part-rest l.out (length l.out) (4 * n) refl) ∙ length-drop (4 * n) l.out ∙ ap (λ (k : ℕ). k - 4 * n) l.invariant.2 in record { t_value = c.letters-t.ensures; bytes_len_bound = (omega arith, room-end c.args.padded (length b) (length c.args.out.now) _ _ c.requires e f) }
+    ap length (part-rest l.out (length l.out) (4 * n) refl) ∙ length-drop (4 * n) l.out ∙ ap (λ (k : ℕ). k - 4 * n) l.invariant.1 in record { bytes_len_bound = (omega arith, room-end c.args.padded (length b) (length c.args.out.now) _ _ c.requires e f) }
 
 pub returns : goal.returns
 returns c =
@@ -54,5 +53,5 @@ returns c =
     let s = x.bytes.now in
     let n = length s / 3 in
     let e : l.i ≡ n = omega arith in
-    group_end (encode false) 3 4 encode_groups s x.out.now l.out _ n (l.invariant.3 ∙ ap (written (encode false) 3 4 s x.out.now) e) (encode x.padded) (encode-append x.padded) (omega arith)
+    group_end (encode false) 3 4 encode_groups s x.out.now l.out _ n (l.invariant.2 ∙ ap (written (encode false) 3 4 s x.out.now) e) (encode x.padded) (encode-append x.padded) (omega arith)
     (c.encode_end.ensures ∙ ap (λ (b : List ℕ). placed (encode x.padded b) 0 (take (length l.out - 4 * n) (drop (4 * n) l.out))) (part-rest s (length s) (3 * n) refl))

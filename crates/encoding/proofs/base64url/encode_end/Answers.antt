@@ -23,7 +23,7 @@ returns-then-bytes-eq0 c =
     ap (λ (l : List ℕ). placed l 0 x.out.now) (none x.padded x.bytes.now c.if-bytes-eq0.true)
 
 pub encode_one-requires : goal.encode_one-requires
-encode_one-requires c = let h = room c.args.padded (length c.args.bytes.now) 1 (length c.args.out.now) c.if-bytes-eq1.true c.requires.bytes_len_bound.1 in record { t_value = c.requires.t_value; in_bounds = (h.0, h.1) }
+encode_one-requires c = let h = room c.args.padded (length c.args.bytes.now) 1 (length c.args.out.now) c.if-bytes-eq1.true c.requires.bytes_len_bound.1 in record { in_bounds = (h.0, h.1) }
 
 pub returns-then-bytes-eq1 : goal.returns-then-bytes-eq1
 returns-then-bytes-eq1 c =
@@ -31,7 +31,7 @@ returns-then-bytes-eq1 c =
     c.encode_one.ensures ∙ ap (λ (l : List ℕ). placed (encode x.padded l) 0 x.out.now) (sym (list_tab 1 x.bytes.now c.if-bytes-eq1.true))
 
 pub encode_two-requires : goal.encode_two-requires
-encode_two-requires c = let h = room c.args.padded (length c.args.bytes.now) 2 (length c.args.out.now) (omega arith) c.requires.bytes_len_bound.1 in record { t_value = c.requires.t_value; in_bounds = (h.0, h.1) }
+encode_two-requires c = let h = room c.args.padded (length c.args.bytes.now) 2 (length c.args.out.now) (omega arith) c.requires.bytes_len_bound.1 in record { in_bounds = (h.0, h.1) }
 
 pub returns : goal.returns
 returns c =

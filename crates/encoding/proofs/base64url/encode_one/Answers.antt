@@ -12,12 +12,6 @@ use Rattle.encoding.specs.Base64url.{pad_character}
 use Rattle.encoding.proofs.Texts.{one_byte, one_byte_padded}
 use Rattle.encoding.proofs.base64url.encode_one.Goals as goal
 
-pub letter_of-requires : goal.letter_of-requires
-letter_of-requires c = record { t_value = c.requires.t_value; v_bound = omega arith }
-
-pub letter_of-requires-2 : goal.letter_of-requires-2
-letter_of-requires-2 c = record { t_value = c.requires.t_value; v_bound = omega arith }
-
 pub bounds-out-1 : goal.bounds-out-1
 bounds-out-1 c = simp length-set (omega arith)
 
@@ -28,7 +22,7 @@ pub returns-then-not-padded : goal.returns-then-not-padded
 returns-then-not-padded c =
     let x = c.args in
     sets-eq (c.letter_of.result ∷ c.letter_of-2.result ∷ []) x.out.now 0 c.requires.in_bounds.0
-    ∙ rw (not-true x.padded c.if-not-padded.true-raw) (ap (λ (l : List ℕ). placed l 0 x.out.now) (one_byte x.a _ _ c.letter_of.ensures c.letter_of-2.ensures))
+    ∙ rw (not-true x.padded c.if-not-padded.true-raw) (ap (λ (l : List ℕ). placed l 0 x.out.now) (one_byte _ c.args.t.now.standard x.a _ _ c.letter_of.ensures c.letter_of-2.ensures))
 
 pub bounds-out-2 : goal.bounds-out-2
 bounds-out-2 c = simp length-set (omega (arith, c.requires.in_bounds.1 (not-false c.args.padded c.if-not-padded.false-raw)))
@@ -44,4 +38,4 @@ returns c =
     let x = c.args in
     let h = not-false x.padded c.if-not-padded.false-raw in
     sets-eq (c.letter_of.result ∷ c.letter_of-2.result ∷ pad_character ∷ pad_character ∷ []) x.out.now 0 (c.requires.in_bounds.1 h)
-    ∙ rw h (ap (λ (l : List ℕ). placed l 0 x.out.now) (one_byte_padded x.a _ _ c.letter_of.ensures c.letter_of-2.ensures))
+    ∙ rw h (ap (λ (l : List ℕ). placed l 0 x.out.now) (one_byte_padded _ c.args.t.now.standard x.a _ _ c.letter_of.ensures c.letter_of-2.ensures))

@@ -1,7 +1,7 @@
 -- `reseal`: the chunk is deciphered, changed and sealed in its place.
 -- Assumes nothing.
 use Prim.Native.Nat.{ℕ, ◌+◌}
-use mathlib.Core.Path.{◌≡◌, ap, ◌∙◌}
+use mathlib.Core.Path.{ap, ◌∙◌}
 use native.Mathlib.Omega.{arith}
 use Rattle.octets.specs.Bytes.{placed}
 use Rattle.aes_spec.specs.Cipher.{cipher}
@@ -15,25 +15,32 @@ use Rattle.file_mend.proofs.chunk.reseal.Goals as goal
 
 pub overflow_add-sizes_of : goal.overflow_add-sizes_of
 overflow_add-sizes_of c =
-    let nonce-size : c.sizes_of.result.nonce ≡ (sizes_of c.args.combo).nonce = ap (λ (z : Sizes). z.nonce) c.sizes_of.ensures in
-    omega (arith, nonce-size, nonce_in_chunk c.args.combo, c.requires.header_nonce_len.2, c.requires.header_nonce_len.3)
+    let n = ap (λ (z : Sizes). z.nonce) c.sizes_of.ensures in
+    omega (arith, n, nonce_in_chunk c.args.keys.now.combo, c.requires.nonce_len)
+
+pub open_in_place-requires : goal.open_in_place-requires
+open_in_place-requires c =
+    let x = c.args in
+    let k = x.keys.now in
+    record { tagged = (k.content.keyed.1, (k.mac.now, k.header_nonce.now, x.number, c.requires.chunk_value)); combo_in_bounds = omega (arith, c.requires.nonce_len.2) }
 
 pub copy_at-requires : goal.copy_at-requires
 copy_at-requires c =
-    let nonce-size : c.sizes_of.result.nonce ≡ (sizes_of c.args.combo).nonce = ap (λ (z : Sizes). z.nonce) c.sizes_of.ensures in
-    omega (arith, nonce-size, nonce_in_chunk c.args.combo, c.requires.header_nonce_len.3)
+    let n = ap (λ (z : Sizes). z.nonce) c.sizes_of.ensures in
+    omega (arith, n, nonce_in_chunk c.args.keys.now.combo, c.requires.nonce_len.2)
 
 pub returns : goal.returns
 returns c =
-    let nonce-size : c.sizes_of.result.nonce ≡ (sizes_of c.args.combo).nonce = ap (λ (z : Sizes). z.nonce) c.sizes_of.ensures in
+    let n = ap (λ (z : Sizes). z.nonce) c.sizes_of.ensures in
     let x = c.args in
-    let k = x.combo in
-    let e = cipher 14 x.w.now in
-    let p = opened_under k e x.chunk.now in
-    let size = opened-size k e (length-cipher 14 x.w.now) x.chunk.now in
-    let f = c.requires.header_nonce_len.3 in
+    let k = x.keys.now in
+    let e = cipher 14 k.content.w.now in
+    let p = opened_under k.combo e x.chunk.now in
+    let z = sizes_of k.combo in
+    let size = opened-size k.combo e (length-cipher 14 k.content.w.now) x.chunk.now in
+    let f = c.requires.nonce_len.2 in
     let changed = c.copy_at.ensures ∙ ap (placed x.part.now (c.sizes_of.result.nonce + x.lo)) c.open_in_place.ensures
-    ∙ ap (λ (m : ℕ). placed x.part.now (m + x.lo) (placed p (sizes_of k).nonce x.chunk.now)) (nonce-size) in
+    ∙ ap (λ (m : ℕ). placed x.part.now (m + x.lo) (placed p z.nonce x.chunk.now)) n in
     c.seal_in_place.ensures
-    ∙ ap (sealed_under k e x.mac.now x.header_nonce.now x.number x.nonce.now)
-    (ap (clear_in (sizes_of k)) changed ∙ in_place (sizes_of k) x.part.now p x.chunk.now x.lo (nonce_in_chunk k) (omega (arith, size, f)) (omega (arith, size, f)))
+    ∙ ap (sealed_under k.combo e k.mac.now k.header_nonce.now x.number x.nonce.now)
+    (ap (clear_in z) changed ∙ in_place z x.part.now p x.chunk.now x.lo (nonce_in_chunk k.combo) (omega (arith, size, f)) (omega (arith, size, f)))

@@ -20,10 +20,9 @@ reseal k w mac n from new = resealed (sealed_under k (cipher 14 w) mac n) (plain
 
 abbrev pub invariant-loop-i : goal.invariant-loop-i
 invariant-loop-i l =
+    let k = l.keys in
+    let z = sizes_of k.combo in
+    let seal = reseal k.combo k.content.w.now k.mac.now k.header_nonce.now l.from l.new in
     (l.first ≤ l.i) × (l.i ≤ l.e) × (length l.file ≡ length l.initial.file)
-    × ((j : ℕ) → l.i ≤ j → j < l.e → good_under l.combo (cipher 14 l.w) l.mac l.header_nonce j (chunk_at (sizes_of l.combo) l.file j) ≡ true)
-    × (mended_from (sizes_of l.combo) (reseal l.combo l.w l.mac l.header_nonce l.from l.new) l.first (l.e - l.first) l.nonces l.initial.file
-    ≡ mended_from (sizes_of l.combo) (reseal l.combo l.w l.mac l.header_nonce l.from l.new) l.i (l.e - l.i) (drop ((sizes_of l.combo).nonce * (l.i - l.first)) l.nonces) l.file)
-
-abbrev pub decreases-loop-i : goal.decreases-loop-i
-decreases-loop-i l = l.e - l.i
+    × ((j : ℕ) → l.i ≤ j → j < l.e → good_under k.combo (cipher 14 k.content.w.now) k.mac.now k.header_nonce.now j (chunk_at z l.file j) ≡ true)
+    × (mended_from z seal l.first (l.e - l.first) l.nonces l.initial.file ≡ mended_from z seal l.i (l.e - l.i) (drop (z.nonce * (l.i - l.first)) l.nonces) l.file)

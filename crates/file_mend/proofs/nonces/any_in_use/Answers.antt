@@ -21,37 +21,29 @@ loop-i-init c =
 
 pub nonce-requires : goal.nonce-requires
 nonce-requires c =
-    let nonce-size : c.sizes_of-w.result.nonce ≡ (sizes_of c.args.combo).nonce = ap (λ (z : Sizes). z.nonce) c.sizes_of-w.ensures in
     let w = c.sizes_of-w.result.nonce in
-    let e = nonce-size in
-    let f : w * c.args.k ≤ length c.args.nonces.now = omega (arith, ap (λ (m : ℕ). m * c.args.k) e, c.requires.0) in
+    let f : w * c.args.k ≤ length c.args.nonces.now = omega (arith, ap (λ (z : Sizes). z.nonce * c.args.k) c.sizes_of-w.ensures, c.requires.0) in
     ends_within w c.args.k c.loop-i.i (length c.args.nonces.now) (search rules) f
 
 pub returns-then-in_use : goal.returns-then-in_use
 returns-then-in_use c =
-    let nonce-size : c.sizes_of-w.result.nonce ≡ (sizes_of c.args.combo).nonce = ap (λ (z : Sizes). z.nonce) c.sizes_of-w.ensures in
-    let found : let a = c.args in
-    let z = sizes_of a.combo in
-    in_use z (take z.nonce (drop (z.nonce * c.loop-i.i) a.nonces.now)) a.file.now 0 (chunks a.n) ≡ c.in_use.result = let a = c.args in
-    sym (c.in_use.ensures
-    ∙ ap (λ (x : List ℕ). in_use (sizes_of a.combo) x a.file.now 0 (chunks a.n)) (c.nonce.ensures.0 ∙ ap (λ (m : ℕ). take m (drop (m * c.loop-i.i) a.nonces.now)) (nonce-size))) in
     let a = c.args in
+    let z = sizes_of a.combo in
+    let found : in_use z (take z.nonce (drop (z.nonce * c.loop-i.i) a.nonces.now)) a.file.now 0 (chunks a.n) ≡ c.in_use.result =
+    sym (c.in_use.ensures ∙ ap (λ (x : List ℕ). in_use z x a.file.now 0 (chunks a.n)) (c.nonce.ensures.0 ∙ ap (λ (y : Sizes). take y.nonce (drop (y.nonce * c.loop-i.i) a.nonces.now)) c.sizes_of-w.ensures)) in
     let s = found ∙ c.if-in_use.true in
     let h : c.loop-i.i < a.k = search rules in
-    sym (c.loop-i.invariant.1 ∙ any_next (sizes_of a.combo) a.file.now a.nonces.now (chunks a.n) c.loop-i.i a.k h ∙ rw s)
+    sym (c.loop-i.invariant.1 ∙ any_next z a.file.now a.nonces.now (chunks a.n) c.loop-i.i a.k h ∙ rw s)
 
 pub loop-i-preserved : goal.loop-i-preserved
 loop-i-preserved c =
-    let nonce-size : c.sizes_of-w.result.nonce ≡ (sizes_of c.args.combo).nonce = ap (λ (z : Sizes). z.nonce) c.sizes_of-w.ensures in
-    let found : let a = c.args in
-    let z = sizes_of a.combo in
-    in_use z (take z.nonce (drop (z.nonce * c.loop-i.i) a.nonces.now)) a.file.now 0 (chunks a.n) ≡ c.in_use.result = let a = c.args in
-    sym (c.in_use.ensures
-    ∙ ap (λ (x : List ℕ). in_use (sizes_of a.combo) x a.file.now 0 (chunks a.n)) (c.nonce.ensures.0 ∙ ap (λ (m : ℕ). take m (drop (m * c.loop-i.i) a.nonces.now)) (nonce-size))) in
     let a = c.args in
+    let z = sizes_of a.combo in
+    let found : in_use z (take z.nonce (drop (z.nonce * c.loop-i.i) a.nonces.now)) a.file.now 0 (chunks a.n) ≡ c.in_use.result =
+    sym (c.in_use.ensures ∙ ap (λ (x : List ℕ). in_use z x a.file.now 0 (chunks a.n)) (c.nonce.ensures.0 ∙ ap (λ (y : Sizes). take y.nonce (drop (y.nonce * c.loop-i.i) a.nonces.now)) c.sizes_of-w.ensures)) in
     let s = found ∙ c.if-in_use.false in
     let h : c.loop-i.i < a.k = search rules in
-    (omega (arith, h), c.loop-i.invariant.1 ∙ any_next (sizes_of a.combo) a.file.now a.nonces.now (chunks a.n) c.loop-i.i a.k h ∙ rw s)
+    (omega (arith, h), c.loop-i.invariant.1 ∙ any_next z a.file.now a.nonces.now (chunks a.n) c.loop-i.i a.k h ∙ rw s)
 
 pub returns : goal.returns
 returns c =

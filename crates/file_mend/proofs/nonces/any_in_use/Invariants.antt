@@ -10,6 +10,3 @@ use Rattle.file_mend.proofs.nonces.any_in_use.Given as goal
 
 abbrev pub invariant-loop-i : goal.invariant-loop-i
 invariant-loop-i l = (l.i ≤ l.k) × (any_in_use (sizes_of l.combo) l.k l.nonces l.file (chunks l.n) ≡ any_in_use (sizes_of l.combo) (l.k - l.i) (drop ((sizes_of l.combo).nonce * l.i) l.nonces) l.file (chunks l.n))
-
-abbrev pub decreases-loop-i : goal.decreases-loop-i
-decreases-loop-i l = l.k - l.i

@@ -8,6 +8,3 @@ use Rattle.file_mend.proofs.nonces.in_use.Given as goal
 
 abbrev pub invariant-loop-i : goal.invariant-loop-i
 invariant-loop-i l = (l.i ≤ l.k) × (in_use (sizes_of l.combo) l.x l.file 0 l.k ≡ in_use (sizes_of l.combo) l.x l.file l.i (l.k - l.i))
-
-abbrev pub decreases-loop-i : goal.decreases-loop-i
-decreases-loop-i l = l.k - l.i

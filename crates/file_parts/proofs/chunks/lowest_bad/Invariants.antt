@@ -9,7 +9,7 @@ use Rattle.vault.specs.Under.{good_under}
 use Rattle.file_parts.proofs.chunks.lowest_bad.Given as goal
 
 abbrev pub invariant-loop-i : goal.invariant-loop-i
-invariant-loop-i l = (l.i ≤ l.e) × (lowest_bad (sizes_of l.combo) (good_under l.combo (cipher 14 l.w) l.mac l.header_nonce) l.file l.first (l.e - l.first) ≡ lowest_bad (sizes_of l.combo) (good_under l.combo (cipher 14 l.w) l.mac l.header_nonce) l.file l.i (l.e - l.i))
-
-abbrev pub decreases-loop-i : goal.decreases-loop-i
-decreases-loop-i l = l.e - l.i
+invariant-loop-i l =
+    let z = sizes_of l.keys.combo in
+    let good = good_under l.keys.combo (cipher 14 l.keys.content.w.now) l.keys.mac.now l.keys.header_nonce.now in
+    (l.i ≤ l.e) × (lowest_bad z good l.file l.first (l.e - l.first) ≡ lowest_bad z good l.file l.i (l.e - l.i))

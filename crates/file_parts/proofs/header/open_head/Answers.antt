@@ -1,10 +1,12 @@
 -- `open_head`: the first bytes of the file, as many as a header of the combo has.
 -- Assumes nothing.
-use Prim.Native.Nat.{ℕ, ◌≤◌}
-use mathlib.Core.Path.{◌≡◌, sym, ap, ◌∙◌}
-use mathlib.Core.Bool.{true, cond}
+use Prim.Native.Nat.{ℕ}
+use mathlib.Core.Path.{◌≡◌, refl, sym, ap, ◌∙◌}
+use mathlib.Core.Bool.{Bool, true, false, cond}
 use native.Mathlib.Omega.{arith}
+use mathlib.Core.List.{List}
 use lib.ListN.{length, take}
+use Rattle.std.specs.Prelude.{Option, Some, None, MatchOption}
 use lib.Seq.{length-take-le}
 use Rattle.frame.specs.Layout.{Sizes, right_length, header_at}
 use Rattle.frame.specs.Frame.{payload_of}
@@ -13,28 +15,29 @@ use Rattle.vault.specs.declared.record.Combo.{Combo}
 use Rattle.vault.specs.Vault.{sizes_of, codec_with}
 use Rattle.file_parts.proofs.header.open_head.Goals as goal
 
--- the file holds a header
-held : (k : Combo) (l : ℕ) → right_length (sizes_of k) l ≡ true → (sizes_of k).header ≤ l
-held k l r = omega (arith, file-clear (sizes_of k) l r)
+-- the file holds a header, of the size that the code has in z
+front : (k : Combo) (z : Sizes) (f : List ℕ) → z ≡ sizes_of k → right_length (sizes_of k) (length f) ≡ true → (length (take z.header f) ≡ z.header) × (z.header ≡ (sizes_of k).header)
+front k z f e r =
+    let s = ap (λ (y : Sizes). y.header) e in
+    (length-take-le z.header f (omega (arith, s, file-clear (sizes_of k) (length f) r)), s)
 
 pub slice_bounds-open_header-end : goal.slice_bounds-open_header-end
-slice_bounds-open_header-end c =
-    let size : c.sizes_of-h.result.header ≡ (sizes_of c.args.combo).header = ap (λ (z : Sizes). z.header) c.sizes_of-h.ensures in
-    let long : length (take c.sizes_of-h.result.header c.args.file.now) ≡ c.sizes_of-h.result.header = let f = c.args.file.now in
-    length-take-le c.sizes_of-h.result.header f (omega (arith, size, held c.args.combo (length f) c.requires.enc_len.1)) in
-    sym (long)
+slice_bounds-open_header-end c = let x = c.args in sym (front x.combo _ x.file.now c.sizes_of-h.ensures c.requires.enc_len.1).0
 
 pub open_header-requires : goal.open_header-requires
 open_header-requires c =
-    let size : c.sizes_of-h.result.header ≡ (sizes_of c.args.combo).header = ap (λ (z : Sizes). z.header) c.sizes_of-h.ensures in
-    let long : length (take c.sizes_of-h.result.header c.args.file.now) ≡ c.sizes_of-h.result.header = let f = c.args.file.now in
-    length-take-le c.sizes_of-h.result.header f (omega (arith, size, held c.args.combo (length f) c.requires.enc_len.1)) in
-    record { t_value = c.requires.t_value; enc_len = (c.requires.enc_len.0, long ∙ size, c.requires.enc_len.2) }
+    let x = c.args in
+    let l = front x.combo _ x.file.now c.sizes_of-h.ensures c.requires.enc_len.1 in
+    record { enc_len = (c.requires.enc_len.0, l.0 ∙ l.1) }
+
+-- what a payload given for a good header says
+told : (b : Bool) (p : List ℕ) (r : Option (List ℕ)) → r ≡ cond b (Some p) None → MatchOption r (b ≡ false) (λ q. (b ≡ true) × (q ≡ p))
+told true p r e = rw e (refl, refl)
+told false p r e = rw e refl
 
 pub returns : goal.returns
 unfolding header_at
 returns c =
-    let size : c.sizes_of-h.result.header ≡ (sizes_of c.args.combo).header = ap (λ (z : Sizes). z.header) c.sizes_of-h.ensures in
     let x = c.args in
     let C = codec_with x.combo x.enc.now x.mac.now in
-    let o = c.open_header in record { value = o.ensures.value ∙ ap (λ (n : ℕ). C.header_good (take n x.file.now)) (size); payload_after = o.ensures.payload_after ∙ ap (λ (n : ℕ). cond o.result (payload_of (C.head_of (take n x.file.now))) x.payload.now) (size) }
+    told _ _ _ (c.open_header.ensures ∙ ap (λ (z : Sizes). cond (C.header_good (take z.header x.file.now)) (Some (payload_of (C.head_of (take z.header x.file.now)))) None) c.sizes_of-h.ensures)

@@ -8,6 +8,3 @@ use Rattle.file_parts.proofs.nonces.repeats.Given as goal
 
 abbrev pub invariant-loop-i : goal.invariant-loop-i
 invariant-loop-i l = (l.i ≤ l.k) × (repeats l.w l.k l.nonces ≡ repeats l.w (l.k - l.i) (drop (l.w * l.i) l.nonces))
-
-abbrev pub decreases-loop-i : goal.decreases-loop-i
-decreases-loop-i l = l.k - l.i

@@ -5,7 +5,7 @@ use mathlib.Core.Path.{◌≡◌, sym, ap, ◌∙◌}
 use mathlib.Core.Logic.{⊎_elim}
 use mathlib.Core.List.{List, []}
 use Rattle.octets.specs.Rows.{Outcome, refused, refused_at, number}
-use Rattle.answer.specs.declared.Answer.{Answer}
+use Rattle.std.specs.Prelude.{Result}
 use Rattle.answer.specs.declared.Refusal.{Refusal}
 use Rattle.answer.specs.Meaning.{row, meaning}
 use Rattle.file_reader.specs.Kept.{file_by}
@@ -18,5 +18,5 @@ nothing x f =
     ⊎_elim (λ (e : row x ≡ refused (number (row x))). ap (λ (o : Outcome). file_by o f) e)
     (λ (e : (i : ℕ) × (row x ≡ refused_at (number (row x)) i)). ap (λ (o : Outcome). file_by o f) e.1) (refusal x)
 
-pub returns-in-Refused : goal.returns-in-Refused
-returns-in-Refused c = sym (ap (λ (a : Answer). file_by (meaning a) c.args.file.now) c.in-Refused.is ∙ nothing c.in-Refused.field-0 c.args.file.now)
+pub returns-in-Err : goal.returns-in-Err
+returns-in-Err c = sym (ap (λ (a : Result ℕ Refusal). file_by (meaning a) c.args.file.now) c.in-Err.is ∙ nothing c.in-Err.field-0 c.args.file.now)

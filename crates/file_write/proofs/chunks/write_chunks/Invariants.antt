@@ -10,11 +10,11 @@ use Rattle.vault.specs.Under.{sealed_under, sizes_in}
 use Rattle.file_write.proofs.chunks.write_chunks.Given as goal
 
 abbrev pub invariant-loop-i : goal.invariant-loop-i
-invariant-loop-i l = (l.i ≤ l.k)
+invariant-loop-i l =
+    let z = sizes_in l.z in
+    let seal = sealed_under l.keys.combo (cipher 14 l.keys.content.w.now) l.keys.mac.now l.keys.header_nonce.now in
+    (l.i ≤ l.k)
     × (length l.out ≡ length l.initial.out)
-    × (chunks_from (sizes_in l.z) (sealed_under l.combo (cipher 14 l.w) l.mac l.header_nonce) 0 l.k l.nonces l.cleartext
+    × (chunks_from z seal 0 l.k l.nonces l.cleartext
     ≡ take (min (32768 * l.i) (length l.cleartext) + l.z.overhead * l.i) l.out
-    ++ chunks_from (sizes_in l.z) (sealed_under l.combo (cipher 14 l.w) l.mac l.header_nonce) l.i (l.k - l.i) (drop (l.z.nonce * l.i) l.nonces) (drop (32768 * l.i) l.cleartext))
-
-abbrev pub decreases-loop-i : goal.decreases-loop-i
-decreases-loop-i l = l.k - l.i
+    ++ chunks_from z seal l.i (l.k - l.i) (drop (l.z.nonce * l.i) l.nonces) (drop (32768 * l.i) l.cleartext))

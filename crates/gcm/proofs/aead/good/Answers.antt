@@ -17,7 +17,7 @@ slice_bounds-tag-end c =
 pub tag-x-requires : goal.tag-x-requires
 tag-x-requires c =
     let s = c.args.sealed.now in
-    let e : length (take (length s - 16) s) ≡ length s - 16 = length-take-le (length s - 16) s (omega arith) in record { keyed = c.requires.keyed; nonce_len = (c.requires.nonce_len.0, c.requires.nonce_len.1, omega (arith, e, c.requires.nonce_len)) }
+    let e : length (take (length s - 16) s) ≡ length s - 16 = length-take-le (length s - 16) s (omega arith) in record { nonce_len = (c.requires.nonce_len.0, c.requires.nonce_len.1, omega (arith, e, c.requires.nonce_len)) }
 
 pub returns : goal.returns
 unfolding spec.good

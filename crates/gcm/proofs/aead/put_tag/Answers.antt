@@ -19,7 +19,7 @@ slice_bounds-tag-end-2 c =
 pub tag-x-requires : goal.tag-x-requires
 tag-x-requires c =
     let d = c.args.out.now in
-    let n : length (take (length d - 16) d) ≡ length d - 16 = length-take-le (length d - 16) d (omega arith) in record { keyed = c.requires.keyed; nonce_len = (c.requires.nonce_len.0, c.requires.nonce_len.1, omega (arith, n, c.requires.nonce_len)) }
+    let n : length (take (length d - 16) d) ≡ length d - 16 = length-take-le (length d - 16) d (omega arith) in record { nonce_len = (c.requires.nonce_len.0, c.requires.nonce_len.1, omega (arith, n, c.requires.nonce_len)) }
 
 pub returns : goal.returns
 unfolding word_bytes

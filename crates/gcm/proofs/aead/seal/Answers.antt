@@ -17,14 +17,14 @@ slice_bounds-crypt-end-2 c =
     sym (length-take-le (length x.cleartext.now) x.out.now (omega arith))
 
 pub crypt-requires : goal.crypt-requires
-crypt-requires c = let n : length (take (length c.args.cleartext.now) c.args.out.now) ≡ length c.args.cleartext.now = length-take-le (length c.args.cleartext.now) c.args.out.now (omega arith) in record { t_value = c.requires.keyed.0; in_bounds = (c.requires.keyed.1, c.requires.nonce_len.0, omega (arith, n)) }
+crypt-requires c = let n : length (take (length c.args.cleartext.now) c.args.out.now) ≡ length c.args.cleartext.now = length-take-le (length c.args.cleartext.now) c.args.out.now (omega arith) in record { in_bounds = (c.args.k.now.keyed.1, c.requires.nonce_len.0, omega (arith, n)) }
 
 pub returns : goal.returns
 returns c =
     let x = c.args in
     let p = x.cleartext.now in
-    let e = cipher 14 x.w.now in
-    let le = length-cipher 14 x.w.now in
+    let e = cipher 14 x.k.now.w.now in
+    let le = length-cipher 14 x.k.now.w.now in
     let y = spec.crypt e x.nonce.now p in
     let n : length (take (length p) x.out.now) ≡ length p = length-take-le (length p) x.out.now (omega arith) in
     let m : length y ≡ length p = length-crypt e le x.nonce.now p in

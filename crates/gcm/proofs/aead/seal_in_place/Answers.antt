@@ -21,5 +21,5 @@ returns c =
     let d = x.out.now in
     let n = length d - 16 in
     c.put_tag.ensures
-    ∙ sealed_front (cipher 14 x.w.now) (length-cipher 14 x.w.now) x.nonce.now x.aad.now (take n d) c.crypt_in_place.new.text d n
+    ∙ sealed_front (cipher 14 x.k.now.w.now) (length-cipher 14 x.k.now.w.now) x.nonce.now x.aad.now (take n d) c.crypt_in_place.new.text d n
     (length-take-le n d (omega arith)) (omega (arith, c.requires.nonce_len)) c.crypt_in_place.ensures

@@ -11,9 +11,9 @@ use Rattle.gcm.proofs.aead.tag.Goals as goal
 pub returns : goal.returns
 returns c =
     let x = c.args in
-    let e = cipher 14 x.w.now in
+    let e = cipher 14 x.k.now.w.now in
     c.add.ensures
     ∙ ap₂ xors
-    (c.to_block.ensures ∙ ap (be 16) (c.hashed.ensures (spec.subkey e) c.requires.keyed.2))
+    (c.from.ensures ∙ ap (be 16) (c.hashed.ensures (spec.subkey e) c.args.k.now.keyed.2))
     (c.encrypt.ensures ∙ ap e c.counter.ensures)
     ∙ tag_is x.nonce.now c.requires.nonce_len.0 e x.aad.now x.ciphertext.now

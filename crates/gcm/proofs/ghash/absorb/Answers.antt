@@ -2,7 +2,6 @@
 -- Assumes nothing.
 use Prim.Native.Nat.{◌-◌, ◌<◌}
 use mathlib.Core.Path.{◌≡◌, sym, ◌∙◌, ap}
-use borrow.Author.Rules.{rules}
 use native.Mathlib.Omega.{arith}
 use lib.ListN.{length}
 use Rattle.ctr.specs.Ctr.{blocks}
@@ -12,18 +11,18 @@ use Rattle.gcm.proofs.Hashing.{hash_more, hash_none}
 use Rattle.gcm.proofs.ghash.absorb.Goals as goal
 
 pub loop-i-init : goal.loop-i-init
-loop-i-init c =
+loop-i-init c h t =
     let x = c.args in
     let e : blocks (length x.s.now) ≡ blocks (length x.s.now) - 0 = omega arith in
-    (search rules, λ h t. ap (spec.ghash_from h (value x.y) (spec.pad x.s.now)) e)
+    ap (spec.ghash_from h (value x.y) (spec.pad x.s.now)) e
 
 pub loop-i-preserved : goal.loop-i-preserved
-loop-i-preserved c =
+loop-i-preserved c h t =
     let x = c.args in
     let k : c.loop-i.i < blocks (length x.s.now) = omega arith in
-    (omega arith, λ h t. c.loop-i.invariant.1 h t ∙ hash_more h x.s.now (value c.loop-i.z) (value c.step-z.result) c.loop-i.i _ k c.block_of.ensures (c.step-z.ensures h t))
+    c.loop-i.invariant h t ∙ hash_more h x.s.now (value c.loop-i.z) (value c.step-z.result) c.loop-i.i _ k c.block_of.ensures (c.step-z.ensures h t)
 
 pub returns : goal.returns
 returns c h t =
     let x = c.args in
-    sym (c.loop-i.invariant.1 h t ∙ hash_none h x.s.now (value c.loop-i.z) c.loop-i.i (omega arith))
+    sym (c.loop-i.invariant h t ∙ hash_none h x.s.now (value c.loop-i.z) c.loop-i.i (omega arith))

@@ -22,7 +22,7 @@ returns c h e =
     let p : 8 * length a < 2 ^ 64 = omega arith in
     let q : 8 * length d < 2 ^ 64 = omega arith in
     c.absorb.ensures h e
-    ∙ hash_block h (value c.absorb-z.result) v _ (digits_lt p q) (c.to_bytes.ensures ∙ c.to_block.ensures)
+    ∙ hash_block h (value c.absorb-z.result) v _ (digits_lt p q) (c.to_bytes.ensures ∙ c.from.ensures)
     ∙ ap (λ (z : ℕ). field.mul (bit_xor z v) h)
     (c.absorb-z.ensures h e ∙ ap (λ (z : ℕ). spec.ghash_from h z (spec.pad d) (blocks (length d))) (c.absorb-y.ensures h e))
     ∙ hash_all h a d (omega arith) (omega arith)

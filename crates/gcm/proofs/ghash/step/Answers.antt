@@ -10,4 +10,4 @@ use Rattle.gcm.proofs.ghash.step.Goals as goal
 pub returns : goal.returns
 returns c h e =
     let x = c.args in
-    c.times.ensures h e ∙ ap (λ (z : ℕ). spec.mul z h) (c.add.ensures ∙ ap (bit_xor (value x.y)) c.of_block.ensures)
+    c.times.ensures h e ∙ ap (λ (z : ℕ). spec.mul z h) (c.bitxor.ensures ∙ ap (bit_xor (value x.y)) c.from.ensures)

@@ -15,6 +15,6 @@ pub returns : goal.returns
 returns c =
     let key = c.args.key.now in
     let w = c.args.w.now in (
-      (c.requires.t_value, search rules, subst (λ (h : ℕ). Entries h c.fill.new.m 16) c.subkey.ensures c.fill.ensures),
-      under_key key _ (c.expand.ensures ∙ ap (λ (l : List ℕ). key_expansion 8 key ++ l) (drop_all 60 w (omega (arith, c.requires.key_len)))),
+      (c.args.t.now.standard, search rules, subst (λ (h : ℕ). Entries h c.fill.new.m 16) c.subkey.ensures c.fill.ensures),
+      under_key key _ (c.expand.ensures ∙ ap (λ (l : List ℕ). key_expansion 8 key ++ l) (drop_all 60 w (omega (arith, c.requires)))),
     )

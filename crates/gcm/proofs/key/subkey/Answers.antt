@@ -8,4 +8,4 @@ use Rattle.gcm.proofs.key.subkey.Goals as goal
 
 pub returns : goal.returns
 unfolding spec.subkey word_bytes
-returns c = c.of_block.ensures ∙ ap int c.encrypt.ensures
+returns c = c.from.ensures ∙ ap int c.encrypt.ensures

@@ -14,5 +14,5 @@ returns c =
     let z = c.args.z in
     let f = c.fold-f.result in
     let s = small in
-    c.add.ensures
+    c.bitxor.ensures
     ∙ four_reduced z.a z.b z.c z.d f.hi f.lo _ s.0 s.1 s.2 s.3 s.4 c.fold-f.ensures c.fold.ensures

@@ -9,4 +9,4 @@ pub returns : goal.returns
 returns c =
     let a = c.args in
     let y = c.decrypt-y in
-    stepped_back (inv_cipher 14 a.w.now) a.n a.x.a a.x.b a.x.c a.x.d a.x.e a.x.f a.x.g a.x.h a.x.i a.x.j y.result.a y.result.b y.result.c y.result.d (search rules) y.ensures
+    stepped_back a.x.now c.told-x (inv_cipher 14 a.w.now) a.n y.result.a y.result.b y.result.c y.result.d (search rules) y.ensures

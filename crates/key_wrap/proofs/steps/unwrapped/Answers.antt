@@ -2,12 +2,12 @@
 -- Assumes nothing.
 use Prim.Native.Nat.{ℕ, suc, ◌-◌, ◌<◌, ◌≤◌}
 use mathlib.Core.List.{List}
-use mathlib.Core.Path.{◌≡◌, refl, sym, ◌∙◌, ap, ap₂}
+use mathlib.Core.Path.{◌≡◌, sym, ◌∙◌, ap, ap₂}
 use native.Mathlib.Omega.{arith}
 use lib.ListN.{length, drop, length-drop}
 use Rattle.aes_inverse.specs.InverseCipher.{inv_cipher}
 use Rattle.key_wrap.specs.KeyWrap.{steps, unwrap_step, unwrap_steps, unwrapped}
-use Rattle.key_wrap.specs.RegisterBytes.{bytes}
+use Rattle.octets.specs.Words.{word_bytes}
 use Rattle.key_wrap.proofs.steps.unwrapped.Goals as goal
 
 module _ (d : List ℕ → List ℕ) where
@@ -24,16 +24,13 @@ module _ (d : List ℕ → List ℕ) where
       let t : 24 ≡ steps (drop 8 s) = let m = length-drop 8 s in omega arith in
       ap (λ (i : ℕ). unwrap_steps d i l) z ∙ e ∙ ap₂ (unwrap_steps d) t f
 
-pub loop-n-init : goal.loop-n-init
-loop-n-init c = (omega arith, refl)
-
 pub loop-n-preserved : goal.loop-n-preserved
 loop-n-preserved c =
     let l = c.loop-n in
-    (omega arith, more (inv_cipher 14 c.args.w.now) (bytes l.x) (bytes c.step_back-x.result) l.n (omega arith) c.step_back-x.ensures ∙ l.invariant.1)
+    more (inv_cipher 14 c.args.w.now) (word_bytes l.x) (word_bytes c.step_back.new.x) (l.n - 1) (omega arith) c.step_back.ensures ∙ l.invariant
 
 pub returns : goal.returns
 returns c =
     let l = c.loop-n in
     let b = c.read-x in
-    done (inv_cipher 14 c.args.w.now) c.args.s.now (bytes b.result) (bytes l.x) l.n (omega arith) l.invariant.1 c.requires.s_len b.ensures
+    done (inv_cipher 14 c.args.w.now) c.args.s.now (word_bytes b.result) (word_bytes l.x) (l.n - 1) (omega arith) l.invariant c.requires.s_len b.ensures

@@ -1,15 +1,13 @@
--- `store`: three blocks, of which the last two overlap.
+-- `store`: before the word i the bytes of the words before it stand in their places.
 -- Assumes nothing.
-use mathlib.Core.List.{[], ◌∷◌}
-use mathlib.Core.Path.{◌∙◌, ap}
-use Rattle.octets.specs.Bytes.{placed}
-use Rattle.octets.specs.Words.{word_bytes}
-use Rattle.key_wrap.proofs.Parts.{stored}
+use Rattle.std.proofs.Common.{◌∙◌, arith}
+use Rattle.key_wrap.proofs.Parts.{word_stored, words_stored}
 use Rattle.key_wrap.proofs.store.store.Goals as goal
 
+pub loop-i-preserved : goal.loop-i-preserved
+loop-i-preserved c =
+    let l = c.loop-i in
+    word_stored c.args.words.now c.args.out.now l.out _ l.i (omega arith) l.invariant c.put_word.ensures
+
 pub returns : goal.returns
-returns c =
-    let w = c.args.x in
-    c.store_block-3.ensures
-    ∙ ap (placed (word_bytes (w.g ∷ w.h ∷ w.i ∷ w.j ∷ [])) 24) (c.store_block-2.ensures ∙ ap (placed (word_bytes (w.e ∷ w.f ∷ w.g ∷ w.h ∷ [])) 16) c.store_block.ensures)
-    ∙ stored w.a w.b w.c w.d w.e w.f w.g w.h w.i w.j c.args.out.now c.requires
+returns c = c.loop-i.invariant ∙ words_stored c.args.words.now c.args.out.now c.loop-i.i c.requires (omega arith)

@@ -1,10 +1,10 @@
 -- `open_under`: opening under the two expanded keys, into the front of the buffer.
 -- Assumes nothing.
 use Prim.Native.Nat.{ℕ, ◌-◌}
-use mathlib.Core.Path.{◌≡◌, sym, ◌∙◌, ap, ap₂}
+use mathlib.Core.Path.{sym, ◌∙◌, ap, ap₂}
 use mathlib.Core.List.{List, [], ◌∷◌, ◌++◌}
 use native.Mathlib.Omega.{arith}
-use lib.ListN.{length, take, drop}
+use lib.ListN.{length, drop}
 use lib.Seq.{length-take-le}
 use Rattle.aes_spec.specs.Cipher.{aes}
 use Rattle.aes.proofs.Ciphers.{under_key, length-aes}
@@ -22,21 +22,12 @@ pub expand-requires-2 : goal.expand-requires-2
 expand-requires-2 c = ((master_sizes _ _ c.requires.mac_value).0, search rules)
 
 pub slice_bounds-open_into-end-4 : goal.slice_bounds-open_into-end-4
-slice_bounds-open_into-end-4 c =
-    let room : let x = c.args in
-    length (take (length x.sealed.now - 16) x.out.now) ≡ length x.sealed.now - 16 = let x = c.args in
-    let p = c.requires.iv_size_in_bounds in
-    length-take-le (length x.sealed.now - 16) x.out.now (omega (arith, p.0, p.2)) in
-    sym (room)
+slice_bounds-open_into-end-4 c = sym (length-take-le (length c.args.sealed.now - 16) c.args.out.now (omega (arith, c.requires.iv_size_in_bounds.2)))
 
-pub open_into-requires : goal.open_into-requires
-open_into-requires c =
-    let room : let x = c.args in
-    length (take (length x.sealed.now - 16) x.out.now) ≡ length x.sealed.now - 16 = let x = c.args in
-    let p = c.requires.iv_size_in_bounds in
-    length-take-le (length x.sealed.now - 16) x.out.now (omega (arith, p.0, p.2)) in
-    let p = c.requires.iv_size_in_bounds in
-    let r = room in record { t_value = c.table-t.ensures; in_bounds = (search rules, search rules); sealed_len = omega (arith, r, p.0) }
+pub open_into-requires-clause-sealed_len : goal.open_into-requires-clause-sealed_len
+open_into-requires-clause-sealed_len c =
+    let r = length-take-le (length c.args.sealed.now - 16) c.args.out.now (omega (arith, c.requires.iv_size_in_bounds.2)) in
+    omega (arith, r, c.requires.iv_size_in_bounds.0)
 
 pub returns : goal.returns
 returns c =

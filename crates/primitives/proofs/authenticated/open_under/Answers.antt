@@ -15,7 +15,7 @@ use Rattle.gcm.proofs.Laws.{length-crypt}
 use Rattle.primitives.proofs.authenticated.open_under.Goals as goal
 
 pub good-requires : goal.good-requires
-good-requires c = record { keyed = c.prepare.ensures.0; nonce_len = (c.requires.key_len.1, c.requires.key_len.2, omega (arith, c.requires.key_len.3), omega (arith, c.requires.sealed_len)) }
+good-requires c = record { nonce_len = (c.requires.key_len.1, c.requires.key_len.2, omega (arith, c.requires.key_len.3), omega (arith, c.requires.sealed_len)) }
 
 pub returns-then-not-good : goal.returns-then-not-good
 returns-then-not-good c =
@@ -31,7 +31,7 @@ slice_bounds-crypt-end-2 c =
 pub crypt-requires : goal.crypt-requires
 crypt-requires c =
     let s = c.args.sealed.now in
-    let n : length (take (length s - 16) s) ≡ length s - 16 = length-take-le (length s - 16) s (omega arith) in record { t_value = c.table-t.ensures; in_bounds = (search rules, c.requires.key_len.1, omega (arith, n, c.requires.sealed_len)) }
+    let n : length (take (length s - 16) s) ≡ length s - 16 = length-take-le (length s - 16) s (omega arith) in record { in_bounds = (search rules, c.requires.key_len.1, omega (arith, n, c.requires.sealed_len)) }
 
 pub returns : goal.returns
 unfolding spec.plain

@@ -8,7 +8,7 @@ use Rattle.gcm.specs.Gcm as spec
 use Rattle.primitives.proofs.authenticated.seal_under.Goals as goal
 
 pub seal-requires : goal.seal-requires
-seal-requires c = record { keyed = c.prepare.ensures.0; nonce_len = (c.requires.key_len.1, c.requires.key_len.2, omega (arith, c.requires.key_len.3)); out_len = c.requires.out_len }
+seal-requires c = record { nonce_len = (c.requires.key_len.1, c.requires.key_len.2, omega (arith, c.requires.key_len.3)); out_len = c.requires.out_len }
 
 pub returns : goal.returns
 returns c =

@@ -3,7 +3,7 @@
 use Prim.Native.Nat.{ℕ}
 use mathlib.Core.Path.{◌≡◌, ◌∙◌, ap}
 use mathlib.Core.List.{List}
-use borrow.Author.Tests.{eq-eqb, ne_eqb, le-leb, lt-leb}
+use borrow.Author.Tests.{eq-eqb, le-leb}
 use native.Mathlib.Omega.{arith}
 use lib.ListN.{length}
 use lib.Seq.{take_all}
@@ -11,20 +11,8 @@ use Rattle.octets.specs.Bytes.{placed}
 use Rattle.aes_spec.specs.Cipher.{cipher, aes}
 use Rattle.aes.proofs.Ciphers.{under_key}
 use Rattle.primitives.specs.Results.{end, aes_fits, aes256}
-use Rattle.primitives.proofs.Ends.{refused, done}
+use Rattle.primitives.proofs.Ends.{done}
 use Rattle.primitives.proofs.cipher.primitives_aes256.Goals as goal
-
-pub returns-then-key-ne32 : goal.returns-then-key-ne32
-unfolding aes256 aes_fits
-returns-then-key-ne32 c = refused _ _ _ (rw (ne_eqb _ _ c.if-key-ne32.true))
-
-pub returns-then-block-ne16 : goal.returns-then-block-ne16
-unfolding aes256 aes_fits
-returns-then-block-ne16 c = refused _ _ _ (rw (eq-eqb _ _ c.if-key-ne32.false, ne_eqb _ _ c.if-block-ne16.true))
-
-pub returns-then-out-lt16 : goal.returns-then-out-lt16
-unfolding aes256 aes_fits
-returns-then-out-lt16 c = refused _ _ _ (rw (eq-eqb _ _ c.if-key-ne32.false, eq-eqb _ _ c.if-block-ne16.false, lt-leb _ _ c.if-out-lt16.true))
 
 pub returns : goal.returns
 unfolding aes256 aes_fits

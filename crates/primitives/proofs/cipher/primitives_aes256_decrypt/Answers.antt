@@ -3,8 +3,7 @@
 use Prim.Native.Nat.{ℕ}
 use mathlib.Core.Path.{◌≡◌, ◌∙◌, ap}
 use mathlib.Core.List.{List}
-use borrow.Author.Tests.{eq-eqb, ne_eqb, le-leb, lt-leb}
-use borrow.Author.Rules.{rules}
+use borrow.Author.Tests.{eq-eqb, le-leb}
 use native.Mathlib.Omega.{arith}
 use lib.ListN.{length}
 use lib.Seq.{take_all}
@@ -12,23 +11,8 @@ use Rattle.octets.specs.Bytes.{placed}
 use Rattle.aes_inverse.specs.InverseCipher.{inv_cipher, inverse_aes}
 use Rattle.aes_inverse.proofs.Ciphers.{inverse_under_key}
 use Rattle.primitives.specs.Results.{end, aes_fits, aes256_decrypt}
-use Rattle.primitives.proofs.Ends.{refused, done}
+use Rattle.primitives.proofs.Ends.{done}
 use Rattle.primitives.proofs.cipher.primitives_aes256_decrypt.Goals as goal
-
-pub returns-then-key-ne32 : goal.returns-then-key-ne32
-unfolding aes256_decrypt aes_fits
-returns-then-key-ne32 c = refused _ _ _ (rw (ne_eqb _ _ c.if-key-ne32.true))
-
-pub returns-then-block-ne16 : goal.returns-then-block-ne16
-unfolding aes256_decrypt aes_fits
-returns-then-block-ne16 c = refused _ _ _ (rw (eq-eqb _ _ c.if-key-ne32.false, ne_eqb _ _ c.if-block-ne16.true))
-
-pub returns-then-out-lt16 : goal.returns-then-out-lt16
-unfolding aes256_decrypt aes_fits
-returns-then-out-lt16 c = refused _ _ _ (rw (eq-eqb _ _ c.if-key-ne32.false, eq-eqb _ _ c.if-block-ne16.false, lt-leb _ _ c.if-out-lt16.true))
-
-pub decrypt-requires : goal.decrypt-requires
-decrypt-requires c = let u = c.unmix_keys in record { t_value = c.table-t.ensures; in_bounds = (search rules, search rules); unmixed_keys = u.ensures }
 
 pub returns : goal.returns
 unfolding aes256_decrypt aes_fits

@@ -15,7 +15,7 @@ use Rattle.aes.proofs.Ciphers.{under_key, length-aes}
 use Rattle.ctr.specs.Ctr.{inc32, inc128, inc_of, ctr}
 use Rattle.ctr.proofs.Texts.{length-ctr}
 use Rattle.primitives.specs.Results.{end, ctr_in_place}
-use Rattle.primitives.proofs.Ends.{refused, done}
+use Rattle.primitives.proofs.Ends.{done}
 use Rattle.primitives.proofs.counter.primitives_ctr_in_place.Goals as goal
 
 -- The whole buffer becomes the text, with the counter that the flag says.
@@ -28,14 +28,6 @@ done_in_place key first text out wide b h k f q =
     ap (end 1) (q ∙ ap (λ (x : Bool). ctr (inc_of (not x)) (aes 8 key) first text) (sym f) ∙ sym (placed_all s text (sym l)))
     ∙ done _ _ _ (rw (eq-eqb _ _ h, eq-eqb _ _ k))
 
-pub returns-then-key-ne32 : goal.returns-then-key-ne32
-unfolding ctr_in_place
-returns-then-key-ne32 c = refused _ _ _ (rw (ne_eqb _ _ c.if-key-ne32.true))
-
-pub returns-then-first_counter-ne16 : goal.returns-then-first_counter-ne16
-unfolding ctr_in_place
-returns-then-first_counter-ne16 c = refused _ _ _ (rw (eq-eqb _ _ c.if-key-ne32.false, ne_eqb _ _ c.if-first_counter-ne16.true))
-
 pub returns-then-wide-eq0 : goal.returns-then-wide-eq0
 returns-then-wide-eq0 c =
     let x = c.args in
@@ -44,10 +36,10 @@ returns-then-wide-eq0 c =
     (c.crypt_in_place.ensures
     ∙ ap₂ (λ (g : List ℕ → List ℕ) (q : List ℕ). ctr inc32 g q x.text.now) (under_key _ _ c.expand.ensures) (c.block_at-first.ensures ∙ take_all 16 f (omega (arith, c.if-first_counter-ne16.false))))
 
-pub returns : goal.returns
-returns c =
+pub returns-else-wide-eq0 : goal.returns-else-wide-eq0
+returns-else-wide-eq0 c =
     let x = c.args in
     let f = x.first_counter.now in
     done_in_place x.key.now f x.text.now _ x.wide _ c.if-key-ne32.false c.if-first_counter-ne16.false (ne_eqb _ _ c.if-wide-eq0.false)
-    (c.crypt128_in_place.ensures
+    (c.crypt_in_place-else-wide-eq0.ensures
     ∙ ap₂ (λ (g : List ℕ → List ℕ) (q : List ℕ). ctr inc128 g q x.text.now) (under_key _ _ c.expand.ensures) (c.block_at-first.ensures ∙ take_all 16 f (omega (arith, c.if-first_counter-ne16.false))))

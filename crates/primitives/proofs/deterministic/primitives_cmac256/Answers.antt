@@ -3,22 +3,14 @@
 use Prim.Native.Nat.{ℕ}
 use mathlib.Core.Path.{◌≡◌, ◌∙◌, ap}
 use mathlib.Core.List.{List}
-use borrow.Author.Tests.{eq-eqb, ne_eqb, le-leb, lt-leb}
+use borrow.Author.Tests.{eq-eqb, le-leb}
 use Rattle.octets.specs.Bytes.{placed}
 use Rattle.aes_spec.specs.Cipher.{aes}
 use Rattle.aes.proofs.Ciphers.{under_key}
 use Rattle.siv.specs.Cmac.{cmac}
 use Rattle.primitives.specs.Results.{end, cmac256}
-use Rattle.primitives.proofs.Ends.{refused, done}
+use Rattle.primitives.proofs.Ends.{done}
 use Rattle.primitives.proofs.deterministic.primitives_cmac256.Goals as goal
-
-pub returns-then-key-ne32 : goal.returns-then-key-ne32
-unfolding cmac256
-returns-then-key-ne32 c = refused _ _ _ (rw (ne_eqb _ _ c.if-key-ne32.true))
-
-pub returns-then-out-lt16 : goal.returns-then-out-lt16
-unfolding cmac256
-returns-then-out-lt16 c = refused _ _ _ (rw (eq-eqb _ _ c.if-key-ne32.false, lt-leb _ _ c.if-out-lt16.true))
 
 pub returns : goal.returns
 unfolding cmac256

@@ -4,14 +4,14 @@ use Prim.Native.Nat.{ℕ, ◌+◌, ◌-◌, ◌/◌, ◌≤◌}
 use mathlib.Core.Path.{◌≡◌, refl, sym, ◌∙◌, ap}
 use mathlib.Core.List.{List, ◌++◌}
 use native.Mathlib.Omega.{arith}
-use borrow.Author.Tests.{le-leb, lt-leb}
+use borrow.Author.Tests.{le-leb}
 use lib.ListN.{length, take, drop, take-append-drop}
-use lib.Seq.{length-take-le, drop-drop}
+use lib.Seq.{drop-drop}
 use Rattle.octets.specs.Bytes.{placed}
 use Rattle.octets.proofs.Lists.{part-rest}
 use Rattle.hmac.specs.Hmac.{hmac_sha256}
 use Rattle.primitives.specs.Results.{end, hmac_sha256_mac}
-use Rattle.primitives.proofs.Ends.{refused, done}
+use Rattle.primitives.proofs.Ends.{done}
 use Rattle.primitives.proofs.hash.primitives_hmac_sha256.Goals as goal
 
 three_parts_lem : (m : List ℕ) (p q : ℕ) → p ≤ q → take p m ++ (take (q - p) (drop p m) ++ take (length m - q) (drop q m)) ≡ m
@@ -20,13 +20,6 @@ three_parts_lem m p q h =
     let e : drop q m ≡ drop (q - p) (drop p m) = ap (λ (j : ℕ). drop j m) k ∙ sym (drop-drop (q - p) p m) in
     let f = ap (λ (l : List ℕ). take (q - p) (drop p m) ++ l) (part-rest m (length m) q refl ∙ e) ∙ take-append-drop (q - p) (drop p m) in
     ap (λ (l : List ℕ). take p m ++ l) f ∙ take-append-drop p m
-
-pub returns-then-out-lt32 : goal.returns-then-out-lt32
-unfolding hmac_sha256_mac
-returns-then-out-lt32 c = refused _ _ _ (rw (lt-leb _ _ c.if-out-lt32.true))
-
-pub slice_bounds-mac-end : goal.slice_bounds-mac-end
-slice_bounds-mac-end c = sym (length-take-le _ _ (omega arith))
 
 pub returns : goal.returns
 unfolding hmac_sha256_mac

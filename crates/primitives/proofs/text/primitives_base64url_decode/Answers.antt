@@ -34,32 +34,24 @@ module _ (text : List ℕ) (padded : ℕ) (d : List ℕ) (n at : ℕ) where
 
 pub returns-then-out-n : goal.returns-then-out-n
 returns-then-out-n c =
-    let facts : let x = c.args in
-    (spec.accepted (is_set x.padded) x.text.now ≡ true) × (length (spec.decoded (is_set x.padded) x.text.now) ≡ c.in-Accepted.n) = let x = c.args in
-    measured_is_accepted (is_set x.padded) x.text.now c.in-Accepted.n (sym c.check.ensures ∙ c.in-Accepted.is) in
     let x = c.args in
-    let f = facts in
+    let f = measured_is_accepted (is_set x.padded) x.text.now c.in-Ok.n (sym c.check.ensures ∙ c.in-Ok.is) in
     no_room_end x.text.now x.padded x.out.now x.written.now x.at.now f.0 (omega (arith, f.1, c.if-out-n.true))
 
 pub decode-requires : goal.decode-requires
 decode-requires c =
-    let facts : let x = c.args in
-    (spec.accepted (is_set x.padded) x.text.now ≡ true) × (length (spec.decoded (is_set x.padded) x.text.now) ≡ c.in-Accepted.n) = let x = c.args in
-    measured_is_accepted (is_set x.padded) x.text.now c.in-Accepted.n (sym c.check.ensures ∙ c.in-Accepted.is) in
-    let f = facts in record { text_value = f.0; text_in_bounds = omega (arith, f.1, c.if-out-n.false) }
+    let f = measured_is_accepted (is_set c.args.padded) c.args.text.now c.in-Ok.n (sym c.check.ensures ∙ c.in-Ok.is) in
+    record { text_value = f.0; text_in_bounds = omega (arith, f.1, c.if-out-n.false) }
 
-pub returns-in-Refused : goal.returns-in-Refused
-returns-in-Refused c =
+pub returns-in-Err : goal.returns-in-Err
+returns-in-Err c =
     let x = c.args in
-    let b = refused-text (is_set x.padded) x.text.now c.in-Refused.place (sym c.check.ensures ∙ c.in-Refused.is) in
+    let b = refused-text (is_set x.padded) x.text.now c.in-Err.broken.0 (sym c.check.ensures ∙ c.in-Err.is) in
     ap (decode_end 0 x.out.now x.written.now) b.1 ∙ refused_end x.text.now x.padded x.out.now x.written.now x.at.now b.0
 
 pub returns-else-out-n : goal.returns-else-out-n
 returns-else-out-n c =
-    let facts : let x = c.args in
-    (spec.accepted (is_set x.padded) x.text.now ≡ true) × (length (spec.decoded (is_set x.padded) x.text.now) ≡ c.in-Accepted.n) = let x = c.args in
-    measured_is_accepted (is_set x.padded) x.text.now c.in-Accepted.n (sym c.check.ensures ∙ c.in-Accepted.is) in
     let x = c.args in
-    let f = facts in
+    let f = measured_is_accepted (is_set x.padded) x.text.now c.in-Ok.n (sym c.check.ensures ∙ c.in-Ok.is) in
     ap₂ (λ (b : List ℕ) (n : ℕ). decode_end 1 b n x.at.now) c.decode.ensures (sym f.1)
     ∙ done_end x.text.now x.padded x.out.now x.written.now x.at.now f.0 (omega (arith, f.1, c.if-out-n.false))

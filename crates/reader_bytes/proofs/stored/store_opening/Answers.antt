@@ -5,7 +5,7 @@ use mathlib.Core.Path.{◌≡◌, refl, sym, ap, ◌∙◌}
 use mathlib.Core.Logic.{⊎_elim}
 use mathlib.Core.List.{List}
 use Rattle.octets.specs.Rows.{Outcome, refused, refused_at, number}
-use Rattle.answer.specs.declared.Answer.{Answer}
+use Rattle.std.specs.Prelude.{Result}
 use Rattle.answer.specs.declared.Refusal.{Refusal}
 use Rattle.answer.specs.Meaning.{row, meaning}
 use Rattle.file_reader.specs.declared.keys.ReaderKeys.{ReaderKeys}
@@ -19,15 +19,15 @@ none_after x k out =
     ⊎_elim (λ (e : row x ≡ refused (number (row x))). ap (λ (o : Outcome). keys_after o k out) e)
     (λ (e : (i : ℕ) × (row x ≡ refused_at (number (row x)) i)). ap (λ (o : Outcome). keys_after o k out) e.1) (refusal x)
 
-pub returns-in-Done : goal.returns-in-Done
-returns-in-Done c =
+pub returns-in-Ok : goal.returns-in-Ok
+returns-in-Ok c =
     let x = c.args in
-    (refl, c.store_keys.ensures ∙ sym (ap (λ (a : Answer). keys_after (meaning a) x.opening.keys x.out.now) c.in-Done.is))
+    (refl, c.store_keys.ensures ∙ sym (ap (λ (a : Result ℕ Refusal). keys_after (meaning a) x.opening.keys x.out.now) c.in-Ok.is))
 
-pub returns-in-Refused : goal.returns-in-Refused
-returns-in-Refused c =
+pub returns-in-Err : goal.returns-in-Err
+returns-in-Err c =
     let x = c.args in (
       refl,
       c.store_none.ensures
-          ∙ sym (ap (λ (a : Answer). keys_after (meaning a) x.opening.keys x.out.now) c.in-Refused.is ∙ none_after c.in-Refused.field-0 x.opening.keys x.out.now),
+          ∙ sym (ap (λ (a : Result ℕ Refusal). keys_after (meaning a) x.opening.keys x.out.now) c.in-Err.is ∙ none_after c.in-Err.field-0 x.opening.keys x.out.now),
     )

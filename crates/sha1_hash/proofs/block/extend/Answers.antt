@@ -1,6 +1,6 @@
 -- `extend`: after the turn t the first t + 1 words are the schedule's.
 -- Assumes nothing.
-use Rattle.std.proofs.Common.{◌≡◌, take, sym, refl, ◌∙◌, arith, length-set, take_all, rules}
+use Rattle.std.proofs.Common.{take, refl, arith}
 use Rattle.hashing.specs.Schedule.{extended}
 use Rattle.hashing.proofs.Schedules.{extended_more}
 use Rattle.sha1_hash.specs.Compression.{next_word}
@@ -9,20 +9,9 @@ use Rattle.sha1_hash.proofs.block.extend.Goals as goal
 
 pub loop-t-init : goal.loop-t-init
 unfolding extended
-loop-t-init c = (search rules, search rules, c.requires, refl)
+loop-t-init c = refl
 
 pub loop-t-preserved : goal.loop-t-preserved
 loop-t-preserved c =
     let l = c.loop-t in
-    let w = c.args.w.now in (
-      omega arith,
-      omega arith,
-      simp length-set l.invariant.2,
-      extended_more next_word next_front (take 16 w) l.w l.t _ (omega arith) (omega arith) l.invariant.3 c.rotl1.ensures,
-    )
-
-pub returns : goal.returns
-returns c =
-    let l = c.loop-t in
-    let e : l.t ≡ 80 = omega arith in
-    sym (take_all 80 l.w (omega arith)) ∙ rw e at l.invariant.3
+    extended_more next_word next_front (take 16 c.args.w.now) l.w l.t _ (omega arith) (omega arith) l.invariant c.rotl1.ensures

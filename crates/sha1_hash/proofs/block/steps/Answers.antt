@@ -6,16 +6,22 @@ use Rattle.sha1_hash.specs.Working.{variables}
 use Rattle.sha1_hash.proofs.Steps.{eighty, uses}
 use Rattle.sha1_hash.proofs.block.steps.Goals as goal
 
-pub steps_parity-z-requires : goal.steps_parity-z-requires
-steps_parity-z-requires c = (search rules, uses 1)
+pub twenty_steps-y-requires-clause-uses : goal.twenty_steps-y-requires-clause-uses
+twenty_steps-y-requires-clause-uses c = uses 0 _ (λ b c d r v. search rules)
 
-pub steps_parity-requires : goal.steps_parity-requires
-steps_parity-requires c = (search rules, uses 3)
+pub twenty_steps-z-requires-clause-uses : goal.twenty_steps-z-requires-clause-uses
+twenty_steps-z-requires-clause-uses c = uses 1 _ (λ b c d r v. search rules)
+
+pub twenty_steps-v-requires-clause-uses : goal.twenty_steps-v-requires-clause-uses
+twenty_steps-v-requires-clause-uses c = uses 2 _ (λ b c d r v. search rules)
+
+pub twenty_steps-requires-clause-uses : goal.twenty_steps-requires-clause-uses
+twenty_steps-requires-clause-uses c = uses 3 _ (λ b c d r v. search rules)
 
 pub returns : goal.returns
 returns c =
     let x = c.args in
     let w = x.w.now in
-    c.steps_parity.ensures
-    ∙ ap (steps w 60 20) (c.steps_maj-v.ensures ∙ ap (steps w 40 20) (c.steps_parity-z.ensures ∙ ap (steps w 20 20) c.steps_ch-y.ensures))
+    c.twenty_steps.ensures
+    ∙ ap (steps w 60 20) (c.twenty_steps-v.ensures ∙ ap (steps w 40 20) (c.twenty_steps-z.ensures ∙ ap (steps w 20 20) c.twenty_steps-y.ensures))
     ∙ sym (eighty w (variables x.x))

@@ -1,9 +1,8 @@
 -- `rotl1`: the standard's form.
 -- Assumes nothing.
-use Rattle.std.proofs.Common.{refl}
 use Rattle.sha1_hash.specs.Operations.{rotl}
 use Rattle.sha1_hash.proofs.operations.rotl1.Goals as goal
 
 pub returns : goal.returns
 unfolding rotl
-returns c = refl
+returns c = cc

@@ -1,9 +1,8 @@
 -- `big_sigma0`: the standard's form.
 -- Assumes nothing.
-use Rattle.std.proofs.Common.{refl}
 use Rattle.sha256.specs.Operations.{rotr, Σ0}
 use Rattle.sha256.proofs.operations.big_sigma0.Goals as goal
 
 pub returns : goal.returns
 unfolding rotr Σ0
-returns c = refl
+returns c = cc

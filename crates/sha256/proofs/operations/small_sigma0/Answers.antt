@@ -1,9 +1,8 @@
 -- `small_sigma0`: the standard's form.
 -- Assumes nothing.
-use Rattle.std.proofs.Common.{refl}
 use Rattle.sha256.specs.Operations.{rotr, σ0}
 use Rattle.sha256.proofs.operations.small_sigma0.Goals as goal
 
 pub returns : goal.returns
 unfolding rotr σ0
-returns c = refl
+returns c = cc

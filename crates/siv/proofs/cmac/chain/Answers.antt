@@ -2,7 +2,6 @@
 -- Assumes nothing.
 use Prim.Native.Nat.{◌-◌, ◌*◌}
 use mathlib.Core.Path.{◌≡◌, sym, ◌∙◌, ap}
-use borrow.Author.Rules.{rules}
 use native.Mathlib.Omega.{arith}
 use lib.ListN.{drop}
 use Rattle.aes_spec.specs.Cipher.{cipher}
@@ -15,14 +14,14 @@ pub loop-i-init : goal.loop-i-init
 loop-i-init c =
     let x = c.args in
     let e : x.n ≡ x.n - 0 = omega arith in
-    (search rules, ap (spec.chain (cipher 14 x.w.now) (state x.c) x.s.now) e)
+    ap (spec.chain (cipher 14 x.w.now) (state x.c) x.s.now) e
 
 pub loop-i-preserved : goal.loop-i-preserved
 loop-i-preserved c =
     let l = c.loop-i in
     let x = c.args in
     let e = cipher 14 x.w.now in
-    (omega arith, l.invariant.1 ∙ chain-step e (state l.x) x.s.now _ _ x.n l.i (omega arith) c.block_at.ensures (c.encrypt-x.ensures ∙ ap e c.add.ensures))
+    l.invariant ∙ chain-step e (state l.x) x.s.now _ _ x.n l.i (omega arith) c.block_at.ensures (c.encrypt-x.ensures ∙ ap e c.add.ensures)
 
 pub returns : goal.returns
 returns c =
@@ -30,4 +29,4 @@ returns c =
     let x = c.args in
     let e = cipher 14 x.w.now in
     let n : x.n - l.i ≡ 0 = omega arith in
-    sym (l.invariant.1 ∙ ap (spec.chain e (state l.x) (drop (16 * l.i) x.s.now)) n ∙ chain_zero e (state l.x) _)
+    sym (l.invariant ∙ ap (spec.chain e (state l.x) (drop (16 * l.i) x.s.now)) n ∙ chain_zero e (state l.x) _)

@@ -37,52 +37,40 @@ xor_end-requires c =
     let n = end-length s c.requires.in_bounds.1 in
     (omega (arith, n, c.requires.in_bounds.1), room s c.requires.in_bounds.1 ∙ sym n)
 
+-- out is the end of s with the block d added.
+module _ (s d out : List ℕ) (h : 16 ≤ length s) (l : length d ≡ 16) (e : out ≡ spec.xorend (take (rest s) (drop (start s) s)) d) where
+  tail : out ≡ spec.xorend (drop (start s) s) d
+  tail = e ∙ ap (λ (x : List ℕ). spec.xorend x d) (part-rest s (length s) (start s) refl)
+
+  tail_length : length out ≡ rest s
+  tail_length =
+      let n : length (drop (start s) s) ≡ rest s = length-drop (start s) s in
+      ap length tail ∙ length-xorend (drop (start s) s) d l (omega (arith, n, h)) ∙ n
+
+  front : take (rest s) (out ++ drop (rest s) (replicate {A = ℕ} 32 0)) ≡ out
+  front = take_at out (drop (rest s) (replicate {A = ℕ} 32 0)) _ tail_length
+
 pub slice_bounds-tail-end-2 : goal.slice_bounds-tail-end-2
 unfolding word_bytes
 slice_bounds-tail-end-2 c =
-    let tail : let x = c.args in
-    c.xor_end.new.out ≡ spec.xorend (drop (start x.s.now) x.s.now) (state x.d) = let x = c.args in
-    c.xor_end.ensures ∙ ap (λ (l : List ℕ). spec.xorend l (state x.d)) (part-rest x.s.now (length x.s.now) (start x.s.now) refl) in
-    let tail-length : length c.xor_end.new.out ≡ rest c.args.s.now = let x = c.args in
-    let s = x.s.now in
-    let n : length (drop (start s) s) ≡ rest s = length-drop (start s) s in
-    ap length (tail) ∙ length-xorend (drop (start s) s) (state x.d) refl (omega (arith, n, c.requires.in_bounds.1)) ∙ n in
     let s = c.args.s.now in
-    let n = tail-length in
-    let m : length (c.xor_end.new.out ++ drop (rest s) (replicate {A = ℕ} 32 0)) ≡ length c.xor_end.new.out + length (drop (rest s) (replicate {A = ℕ} 32 0)) =
-    length-append c.xor_end.new.out (drop (rest s) (replicate {A = ℕ} 32 0)) in
-    omega (arith, n, m)
+    let n = tail_length s (state c.args.d) _ c.requires.in_bounds.1 refl c.xor_end.ensures in
+    omega (arith, n, length-append c.xor_end.new.out (drop (rest s) (replicate {A = ℕ} 32 0)))
 
 pub slice_bounds-cmac_from-end : goal.slice_bounds-cmac_from-end
 unfolding word_bytes
 slice_bounds-cmac_from-end c =
-    let tail : let x = c.args in
-    c.xor_end.new.out ≡ spec.xorend (drop (start x.s.now) x.s.now) (state x.d) = let x = c.args in
-    c.xor_end.ensures ∙ ap (λ (l : List ℕ). spec.xorend l (state x.d)) (part-rest x.s.now (length x.s.now) (start x.s.now) refl) in
-    let tail-length : length c.xor_end.new.out ≡ rest c.args.s.now = let x = c.args in
-    let s = x.s.now in
-    let n : length (drop (start s) s) ≡ rest s = length-drop (start s) s in
-    ap length (tail) ∙ length-xorend (drop (start s) s) (state x.d) refl (omega (arith, n, c.requires.in_bounds.1)) ∙ n in
-    let front : let s = c.args.s.now in
-    take (rest s) (c.xor_end.new.out ++ drop (rest s) (replicate {A = ℕ} 32 0)) ≡ c.xor_end.new.out = take_at c.xor_end.new.out (drop (rest c.args.s.now) (replicate {A = ℕ} 32 0)) _ (tail-length) in
-    sym (ap length (front) ∙ tail-length)
+    let s = c.args.s.now in
+    sym (ap length (front s (state c.args.d) _ c.requires.in_bounds.1 refl c.xor_end.ensures) ∙ tail_length s (state c.args.d) _ c.requires.in_bounds.1 refl c.xor_end.ensures)
 
 pub returns : goal.returns
 unfolding word_bytes
 returns c =
-    let tail : let x = c.args in
-    c.xor_end.new.out ≡ spec.xorend (drop (start x.s.now) x.s.now) (state x.d) = let x = c.args in
-    c.xor_end.ensures ∙ ap (λ (l : List ℕ). spec.xorend l (state x.d)) (part-rest x.s.now (length x.s.now) (start x.s.now) refl) in
-    let tail-length : length c.xor_end.new.out ≡ rest c.args.s.now = let x = c.args in
-    let s = x.s.now in
-    let n : length (drop (start s) s) ≡ rest s = length-drop (start s) s in
-    ap length (tail) ∙ length-xorend (drop (start s) s) (state x.d) refl (omega (arith, n, c.requires.in_bounds.1)) ∙ n in
-    let front : let s = c.args.s.now in
-    take (rest s) (c.xor_end.new.out ++ drop (rest s) (replicate {A = ℕ} 32 0)) ≡ c.xor_end.new.out = take_at c.xor_end.new.out (drop (rest c.args.s.now) (replicate {A = ℕ} 32 0)) _ (tail-length) in
     let x = c.args in
     let s = x.s.now in
     let e = cipher 14 x.w.now in
     let h : start s + 16 ≤ length s = omega (arith, c.requires.in_bounds.1) in
     c.cmac_from.ensures
-    ∙ ap₂ (mac.cmac_from e) (c.chain.ensures ∙ ap (λ (z : List ℕ). mac.chain e z s (length s / 16 - 1)) c.zeros.ensures) (front ∙ tail)
+    ∙ ap₂ (mac.cmac_from e) (c.chain.ensures ∙ ap (λ (z : List ℕ). mac.chain e z s (length s / 16 - 1)) c.zeros.ensures)
+    (front s (state x.d) _ c.requires.in_bounds.1 refl c.xor_end.ensures ∙ tail s (state x.d) _ c.requires.in_bounds.1 refl c.xor_end.ensures)
     ∙ cmac-end s (state x.d) refl e (length s / 16 - 1) h

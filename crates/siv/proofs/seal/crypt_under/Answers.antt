@@ -22,4 +22,4 @@ returns c =
     let e = cipher 14 x.enc.now in
     let t = ctr inc128 e (state q.result) x.src.now in
     let n : length t ≤ length x.out.now = omega (arith, length-ctr inc128 e (length-cipher 14 x.enc.now) (state q.result) x.src.now, c.requires.in_bounds.1) in
-    c.crypt128.ensures ∙ take_all (length x.out.now) t n ∙ ap (λ (l : List ℕ). ctr inc128 e l x.src.now) q.ensures
+    c.crypt.ensures ∙ take_all (length x.out.now) t n ∙ ap (λ (l : List ℕ). ctr inc128 e l x.src.now) q.ensures

@@ -4,6 +4,7 @@ use Prim.Native.Nat.{ℕ}
 use mathlib.Core.Path.{◌≡◌, refl, ◌∙◌, ap, ap₂}
 use mathlib.Core.List.{List, ◌++◌, [], ◌∷◌}
 use lib.ListN.{length}
+use Rattle.std.proofs.Common.{option_copied}
 use Rattle.octets.specs.Bytes.{same}
 use Rattle.octets.proofs.Lists.{part-rest}
 use Rattle.aes_spec.specs.Cipher.{cipher}
@@ -21,6 +22,6 @@ returns c =
     let x = c.args in
     let e = cipher 14 x.mac.now in record {
       value = c.equal.ensures
-          ∙ ap₂ same (c.s2v.ensures ∙ ap (λ (l : List ℕ). spec.s2v e (pieces x.given x.ad.now ++ (l ∷ []))) (text)) c.block_at-v.ensures;
+          ∙ ap₂ same (c.s2v.ensures ∙ ap (λ (l : List ℕ). spec.s2v e (pieces (option_copied x.ad) ++ (l ∷ []))) (text)) c.block_at-v.ensures;
       out_after = text;
     }

@@ -25,7 +25,7 @@ returns c =
     let d = length-drop 16 xs in
     let kept = c.copy_at.auto.dst in
     let l : length (take (length xs - 16) (drop 16 xs)) ≡ length p = ap length (part-rest xs (length xs) 16 refl) ∙ d ∙ omega (arith, kept, c.requires.nonce_len) in
-    let f = c.crypt128.ensures
+    let f = c.crypt.ensures
     ∙ ap₂ (λ (a : ℕ) (b : List ℕ). take a (ctr inc128 e b p)) l s
     ∙ take_all (length p) (ctr inc128 e n p) (omega (arith, length-ctr inc128 e (length-cipher 14 x.w.now) n p)) in
-    placed-rest n c.crypt128.new.out x.out.now xs 16 c.copy_at.ensures c.requires.nonce_len.0 ∙ ap (λ (b : List ℕ). n ++ b) f
+    placed-rest n c.crypt.new.out x.out.now xs 16 c.copy_at.ensures c.requires.nonce_len.0 ∙ ap (λ (b : List ℕ). n ++ b) f

@@ -20,5 +20,5 @@ returns c =
     let xs = c.copy_at.new.dst in
     let f : state c.block_at.result ≡ n = c.block_at.ensures ∙ take_all 16 n (omega (arith, c.requires.nonce_len)) in
     let r : take (length xs - 16) (drop 16 xs) ≡ drop 16 s = part-rest xs (length xs) 16 refl ∙ rest_kept n s xs 16 c.copy_at.ensures c.requires.nonce_len.0 in
-    placed-rest n c.crypt128_in_place.new.text s xs 16 c.copy_at.ensures c.requires.nonce_len.0
-    ∙ ap (λ (t : List ℕ). n ++ t) (c.crypt128_in_place.ensures ∙ ap₂ (ctr inc128 (cipher 14 x.w.now)) f r)
+    placed-rest n c.crypt_in_place.new.text s xs 16 c.copy_at.ensures c.requires.nonce_len.0
+    ∙ ap (λ (t : List ℕ). n ++ t) (c.crypt_in_place.ensures ∙ ap₂ (ctr inc128 (cipher 14 x.w.now)) f r)

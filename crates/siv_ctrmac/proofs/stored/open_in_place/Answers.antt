@@ -20,7 +20,7 @@ returns c =
     let s = x.stored.now in
     let e = cipher 14 x.w.now in
     let m : length s - 32 - 16 ≡ length s - 48 = omega arith in
-    let y : c.crypt128_in_place.new.text ≡ opened e s =
-    c.crypt128_in_place.ensures ∙ ap₂ (λ (a : List ℕ) (j : ℕ). ctr inc128 e a (take j (drop 16 s))) c.block_at.ensures m in
+    let y : c.crypt_in_place.new.text ≡ opened e s =
+    c.crypt_in_place.ensures ∙ ap₂ (λ (a : List ℕ) (j : ℕ). ctr inc128 e a (take j (drop 16 s))) c.block_at.ensures m in
     ap (λ (t : List ℕ). take 16 s ++ (t ++ drop (length s - 32 - 16) (drop 16 s))) y
     ∙ placed-part (opened e s) s 16 (length s - 32 - 16) (length-opened e (length-cipher 14 x.w.now) s ∙ omega arith)

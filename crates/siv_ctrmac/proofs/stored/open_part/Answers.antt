@@ -16,5 +16,5 @@ returns c =
     let x = c.args in
     let s = x.stored.now in
     let e : length s - 32 - 16 ≡ length s - 48 = omega arith in
-    c.crypt128.ensures
+    c.crypt.ensures
     ∙ ap₂ (λ (a : List ℕ) (k : ℕ). take (length x.out.now) (drop x.lo (ctr inc128 (cipher 14 x.w.now) a (take k (drop 16 s))))) c.block_at.ensures e

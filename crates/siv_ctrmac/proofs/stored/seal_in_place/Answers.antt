@@ -18,7 +18,7 @@ slice_bounds-encipher_in_place-end-2 c = sym (length-take-le _ c.args.stored.now
 pub encipher_in_place-requires : goal.encipher_in_place-requires
 encipher_in_place-requires c =
     let d = c.args.stored.now in
-    let l : length (take (length d - 32) d) ≡ length d - 32 = length-take-le (length d - 32) d (omega arith) in record { t_value = c.requires.t_value; nonce_len = (c.requires.nonce_len.0, omega (arith, l, c.requires.nonce_len)) }
+    let l : length (take (length d - 32) d) ≡ length d - 32 = length-take-le (length d - 32) d (omega arith) in record { in_bounds = c.requires.in_bounds; nonce_len = (c.requires.nonce_len.0, omega (arith, l, c.requires.nonce_len)) }
 
 pub returns : goal.returns
 returns c =

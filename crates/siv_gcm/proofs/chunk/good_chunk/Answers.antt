@@ -10,4 +10,4 @@ use Rattle.siv_gcm.proofs.chunk.good_chunk.Goals as goal
 pub returns : goal.returns
 returns c =
     let x = c.args in
-    c.good.ensures ∙ ap (λ (a : List ℕ). opens (cipher 14 x.w.now) a x.chunk.now) c.chunk_data-data.ensures
+    c.good.ensures ∙ ap (λ (a : List ℕ). opens (cipher 14 x.k.now.w.now) a x.chunk.now) c.chunk_data-data.ensures

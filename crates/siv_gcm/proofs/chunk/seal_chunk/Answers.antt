@@ -10,4 +10,4 @@ use Rattle.siv_gcm.proofs.chunk.seal_chunk.Goals as goal
 pub returns : goal.returns
 returns c =
     let x = c.args in
-    c.seal.ensures ∙ ap (λ (a : List ℕ). sealed (cipher 14 x.w.now) a x.nonce.now x.cleartext.now) c.chunk_data-data.ensures
+    c.seal.ensures ∙ ap (λ (a : List ℕ). sealed (cipher 14 x.k.now.w.now) a x.nonce.now x.cleartext.now) c.chunk_data-data.ensures

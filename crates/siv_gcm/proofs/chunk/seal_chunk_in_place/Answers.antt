@@ -12,4 +12,4 @@ pub returns : goal.returns
 returns c =
     let x = c.args in
     let s = x.chunk.now in
-    c.seal_in_place.ensures ∙ ap (λ (a : List ℕ). sealed (cipher 14 x.w.now) a x.nonce.now (take (length s - 28) (drop 12 s))) c.chunk_data-data.ensures
+    c.seal_in_place.ensures ∙ ap (λ (a : List ℕ). sealed (cipher 14 x.k.now.w.now) a x.nonce.now (take (length s - 28) (drop 12 s))) c.chunk_data-data.ensures

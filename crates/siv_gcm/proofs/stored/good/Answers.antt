@@ -21,11 +21,11 @@ pub good-requires : goal.good-requires
 good-requires c =
     let s = c.args.stored.now in
     let n : length (take 12 s) ≡ 12 = length-take-le 12 s (omega (arith, c.requires.aad_len_bound)) in
-    let m : length (take (length s - 12) (drop 12 s)) ≡ length s - 12 = ap length (part-rest s (length s) 12 refl) ∙ length-drop 12 s in record { keyed = c.requires.keyed; nonce_len = (n, c.requires.aad_len_bound.0, omega (arith, m, c.requires.aad_len_bound), omega (arith, m, c.requires.aad_len_bound)) }
+    let m : length (take (length s - 12) (drop 12 s)) ≡ length s - 12 = ap length (part-rest s (length s) 12 refl) ∙ length-drop 12 s in record { nonce_len = (n, c.requires.aad_len_bound.0, omega (arith, m, c.requires.aad_len_bound), omega (arith, m, c.requires.aad_len_bound)) }
 
 pub returns : goal.returns
 unfolding opens
 returns c =
     let x = c.args in
     let s = x.stored.now in
-    c.good.ensures ∙ ap (λ (d : List ℕ). gcm.good (cipher 14 x.w.now) (take 12 s) x.aad.now d) (part-rest s (length s) 12 refl)
+    c.good.ensures ∙ ap (λ (d : List ℕ). gcm.good (cipher 14 x.k.now.w.now) (take 12 s) x.aad.now d) (part-rest s (length s) 12 refl)

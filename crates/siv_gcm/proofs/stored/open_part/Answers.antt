@@ -26,7 +26,7 @@ pub crypt-requires : goal.crypt-requires
 crypt-requires c =
     let s = c.args.stored.now in
     let n : length (take 12 s) ≡ 12 = length-take-le 12 s (omega (arith, c.requires.out_in_bounds)) in
-    let h : 28 ≤ length s = omega (arith, c.requires.out_in_bounds) in record { t_value = c.requires.t_value.0; in_bounds = (c.requires.t_value.1, n, omega (arith, between s h, c.requires.out_in_bounds)) }
+    let h : 28 ≤ length s = omega (arith, c.requires.out_in_bounds) in record { in_bounds = (c.requires.tagged.0, n, omega (arith, between s h, c.requires.out_in_bounds)) }
 
 pub returns : goal.returns
 unfolding opened gcm.plain

@@ -9,7 +9,7 @@ use Rattle.siv_gcm.specs.SivGcm.{sealed}
 use Rattle.siv_gcm.proofs.stored.seal.Goals as goal
 
 pub seal-requires : goal.seal-requires
-seal-requires c = record { keyed = c.requires.keyed; nonce_len = (c.requires.nonce_len.0, c.requires.nonce_len.1, c.requires.nonce_len.2); out_len = search rules }
+seal-requires c = record { nonce_len = (c.requires.nonce_len.0, c.requires.nonce_len.1, c.requires.nonce_len.2); out_len = search rules }
 
 pub returns : goal.returns
 unfolding sealed

@@ -1,9 +1,0 @@
--- `of_block`: four words as one number.
--- Assumes nothing.
-use Rattle.octets.proofs.BigEndian.{int-state}
-use Rattle.gcm.proofs.ghash.of_block.Goals as goal
-
-pub returns : goal.returns
-returns c =
-    let x = c.args.x in
-    int-state x.a x.b x.c x.d
