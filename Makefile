@@ -41,6 +41,10 @@ libraries:
 		(cd "crates/$${library}_c" && rt lib)
 		cp "crates/$${library}_c/out/lib$${library}_c.a" "target/staticlib/lib$$library.a"
 	done
+	if nm -u target/staticlib/libskrapnefja.a | grep ' U ' | grep -v -w -e memcpy -e memset; then
+		echo "the library needs more of the C library than memcpy and memset, which the C header promises" >&2
+		exit 1
+	fi
 
 # The check program.
 program:

@@ -1,13 +1,12 @@
 -- Counter mode by its bytes and parts; it is its own inverse.
 -- Assumes nothing.
-use Rattle.std.proofs.Common.{◌≡◌, ℕ, zero, suc, ◌+◌, ◌-◌, ◌*◌, ◌/◌, ◌%◌, ◌<◌, ◌≤◌, List, ◌++◌, length, get_or, take, drop, sym, refl, ap, ◌∙◌, ap₂, ⊎_elim, arith, lit<, length-append, length-drop, length-take-le, take-take, get_or-drop, get_or-take, drop-drop, get_or-append-add, ext_get_or, drop_at}
-use Rattle.std.proofs.lemmas.List.{drop-take}
+use Rattle.std.proofs.Common.{◌≡◌, ℕ, zero, suc, ◌+◌, ◌-◌, ◌*◌, ◌/◌, ◌%◌, ◌<◌, ◌≤◌, List, ◌++◌, length, get_or, take, drop, sym, refl, ap, ◌∙◌, ap₂, ⊎_elim, arith, lit<, length-append, length-drop, length-take-le, get_or-drop, get_or-take, drop-drop, get_or-append-add, ext_get_or, drop_at}
 use lib.ListN.{get_or-append}
 use lib.Bits.{bit_xor}
 use Rattle.octets.specs.Bytes.{Bytes, filled}
 use Rattle.octets.specs.Xors.{xors}
 use Rattle.octets.proofs.Bytes.{below_nil, below_append, bytes-xors}
-use Rattle.octets.proofs.Lists.{le_or_lt, fill_part}
+use Rattle.octets.proofs.Lists.{le_or_lt, fill_part, filled-length}
 use Rattle.octets.proofs.Xors.{get_d_xors, length-xors, xors_twice}
 use Rattle.ctr.specs.Ctr.{blocks, after, BlockCipher, keystream, ctr}
 
@@ -45,6 +44,13 @@ module _ (inc e : List ℕ → List ℕ) (bs : (s : List ℕ) → Bytes (e s)) w
   ctr-bytes c h = bytes-xors h (keystream-bytes c _)
 
 -- ---- by bytes and parts
+
+-- The w places from j on become those of t, as the first j places of out are.
+part_more : (t d out part : List ℕ) (j w : ℕ) → j + w ≤ length t → j + w ≤ length d → out ≡ filled t j d → part ≡ take w (drop j t)
+    → (length (take j out ++ (part ++ drop (j + w - j) (drop j out))) ≡ length d) × (take j out ++ (part ++ drop (j + w - j) (drop j out)) ≡ filled t (j + w) d)
+part_more t d out part j w h i f p =
+    let r = ap (λ (x : List ℕ). take j x ++ (part ++ drop (j + w - j) (drop j x))) f ∙ fill_part t d part j w h i p in
+    (ap length r ∙ filled-length t d (j + w) h i, r)
 
 module _ (inc e : List ℕ → List ℕ) (le : BlockCipher e) where
   keystream-at : (m : ℕ) (c : List ℕ) (k : ℕ) → k < 16 * m → get_or (keystream inc e c m) k 0 ≡ get_or (e (after inc (k / 16) c)) (k % 16) 0
@@ -93,26 +99,36 @@ module _ (inc e : List ℕ → List ℕ) (le : BlockCipher e) where
         ∙ ap₂ bit_xor (get_or-take w (drop p src) j 0 v ∙ get_or-drop p src j 0) (get_or-drop (p % 16) b j 0 ∙ ap₂ (λ (x y : ℕ). get_or (e (after inc x first)) y 0) q r)
         ∙ sym (get_or-take w (drop p t) j 0 v ∙ get_or-drop p t j 0 ∙ text_at (p + j) (omega arith)))
 
-    -- One part more, of w bytes that lie in one block. d is the part of src from lo on, and the first j bytes are those of the text that src becomes.
-    pub text_more : (d out : List ℕ) (lo j w : ℕ) {k part : List ℕ} → lo + length d ≤ length src → d ≡ take (length d) (drop lo src)
-        → j + w ≤ length d → (lo + j) % 16 + w ≤ 16
+    -- One part more of the text, of w bytes that lie in one block, where the first j bytes of d are those of the text from lo on.
+    pub text_more : (d out : List ℕ) (lo j w : ℕ) {k part : List ℕ} → lo + length d ≤ length src → j + w ≤ length d → (lo + j) % 16 + w ≤ 16
         → out ≡ filled (drop lo (ctr inc e first src)) j d
         → k ≡ e (after inc ((lo + j) / 16) first)
-        → part ≡ xors (take (j + w - j) (drop j out)) (drop ((lo + j) % 16) k)
-        → take j out ++ (part ++ drop (j + w - j) (drop j out)) ≡ filled (drop lo (ctr inc e first src)) (j + w) d
-    text_more d out lo j w {k} {part} h a i m f b g =
+        → part ≡ xors (take (lo + j + w - (lo + j)) (drop (lo + j) src)) (drop ((lo + j) % 16) k)
+        → (length (take j out ++ (part ++ drop (j + w - j) (drop j out))) ≡ length d)
+        × (take j out ++ (part ++ drop (j + w - j) (drop j out)) ≡ filled (drop lo (ctr inc e first src)) (j + w) d)
+    text_more d out lo j w {k} {part} h i m f b g =
         let text = ctr inc e first src in
         let t = drop lo text in
         let u : length t ≡ length src - lo = length-drop lo text ∙ ap (λ (x : ℕ). x - lo) (length-ctr inc e le first src) in
-        let q : j + w - j ≡ w = omega arith in
-        let n : length d ≡ j + (length d - j) = omega arith in
-        let v : drop j d ≡ take (length d - j) (drop (lo + j) src) =
-        ap (drop j) a ∙ ap (λ (x : ℕ). drop j (take x (drop lo src))) n ∙ drop-take j (length d - j) (drop lo src) ∙ ap (take (length d - j)) (drop-drop j lo src) in
-        let r : take w (drop j out) ≡ take w (drop (lo + j) src) =
-        ap (λ (x : List ℕ). take w (drop j x)) f ∙ ap (take w) (drop_at (take j t) (drop j d) j (length-take-le j t (omega arith)) ∙ v)
-        ∙ take-take w (length d - j) (drop (lo + j) src) (omega arith) in
+        let q : lo + j + w - (lo + j) ≡ w = omega arith in
         let p : part ≡ take w (drop j t) =
-        g ∙ ap₂ (λ (x : ℕ) (y : List ℕ). xors (take x (drop j out)) (drop ((lo + j) % 16) y)) q b
-        ∙ ap (λ (x : List ℕ). xors x (drop ((lo + j) % 16) (e (after inc ((lo + j) / 16) first)))) r
+        g ∙ ap₂ (λ (x : ℕ) (y : List ℕ). xors (take x (drop (lo + j) src)) (drop ((lo + j) % 16) y)) q b
         ∙ text-part (lo + j) w (omega arith) m ∙ ap (take w) (sym (drop-drop j lo text)) in
-        ap (λ (x : List ℕ). take j x ++ (part ++ drop (j + w - j) (drop j x))) f ∙ fill_part t d part j w (omega arith) i p
+        part_more t d out part j w (omega arith) i f p
+
+    -- The same in place: out was src itself, and what is added to stands in out.
+    pub text_more_in_place : (out : List ℕ) (j w : ℕ) {k part : List ℕ} → j + w ≤ length src → j % 16 + w ≤ 16
+        → out ≡ filled (ctr inc e first src) j src
+        → k ≡ e (after inc (j / 16) first)
+        → part ≡ xors (take (j + w - j) (drop j out)) (drop (j % 16) k)
+        → (length (take j out ++ (part ++ drop (j + w - j) (drop j out))) ≡ length src)
+        × (take j out ++ (part ++ drop (j + w - j) (drop j out)) ≡ filled (ctr inc e first src) (j + w) src)
+    text_more_in_place out j w {k} {part} i m f b g =
+        let t = ctr inc e first src in
+        let u : length t ≡ length src = length-ctr inc e le first src in
+        let q : j + w - j ≡ w = omega arith in
+        let r : drop j out ≡ drop j src = ap (drop j) f ∙ drop_at (take j t) (drop j src) j (length-take-le j t (omega arith)) in
+        let p : part ≡ take w (drop j t) =
+        g ∙ ap₂ (λ (x y : List ℕ). xors (take (j + w - j) x) (drop (j % 16) y)) r b ∙ ap (λ (x : ℕ). xors (take x (drop j src)) (drop (j % 16) (e (after inc (j / 16) first)))) q
+        ∙ text-part j w i m in
+        part_more t src out part j w (omega arith) i f p

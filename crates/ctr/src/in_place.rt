@@ -1,5 +1,5 @@
 // Counter mode in place: the text becomes what it is enciphered or deciphered to.
-ghost use Rattle.std.specs.Prelude.{◌≡◌, ◌+◌, ◌^◌, ◌<◌, ◌≤◌, List, ℕ, length, take, drop};
+ghost use Rattle.std.specs.Prelude.{◌≡◌, ◌+◌, ◌<◌, ◌≤◌, length, drop};
 ghost use Rattle.octets.specs.Xors.{xors};
 ghost use Rattle.aes_spec.specs.Cipher.{cipher};
 ghost use Rattle.aes.specs.Blocks.{state};
@@ -12,7 +12,7 @@ use octets::slice::xor_into;
 use octets::word::{put_word, word_at};
 
 // How many of the bytes that are left lie in the same block as its byte r.
-fn in_block(r: usize, left: usize) -> usize
+pub(crate) fn in_block(r: usize, left: usize) -> usize
     requires { (r < 16) × (0 < left) }
     ensures { (0 < result) × (result ≤ left) × (r + result ≤ 16) }
 {
@@ -35,7 +35,7 @@ fn whole(t: &RoundTable, w: &[u32], c: Block, text: &mut [u8])
 }
 
 // Enciphers the counter block c and adds it to a part of a block, whose first byte is the block's byte r.
-fn part(t: &RoundTable, w: &[u32], c: Block, r: usize, text: &mut [u8])
+pub(crate) fn part(t: &RoundTable, w: &[u32], c: Block, r: usize, text: &mut [u8])
     requires in_bounds { (60 ≤ length w.now) × (r + length text.old ≤ 16) }
     ensures { text.new ≡ xors text.old (drop r (cipher 14 w.now (state c))) }
 {
@@ -55,34 +55,17 @@ fn apply(t: &RoundTable, w: &[u32], c: Block, r: usize, text: &mut [u8])
     }
 }
 
-// The part of any text src from its byte lo on becomes that of the text that src becomes. The first counter block is that of
-// the first byte of src.
-pub(crate) fn crypt_part<C: Counter>(
-    t: &RoundTable,
-    w: &[u32],
-    first: Block,
-    lo: usize,
-    text: &mut [u8],
-)
-    requires in_bounds { (60 ≤ length w.now) × (lo + length text.old < 2 ^ 64) }
-    ensures { (src : List ℕ) → lo + length text.old ≤ length src → text.old ≡ take (length text.old) (drop lo src)
-        → text.new ≡ take (length text.old) (drop lo (spec.ctr C.inc (cipher 14 w.now) (state first) src)) }
-{
-    let mut j = 0;
-    // Kept: a step is what is left of a block, and the first and the last one may be shorter than 16.
-    while j < text.len() {
-        let p = lo + j;
-        let e = j + in_block(p % 16, text.len() - j);
-        let c = C::after(first, p / 16);
-        apply(t, w, c, p % 16, &mut text[j..e]);
-        j = e;
-    }
-}
-
 // The first counter block is that of the first byte of the text.
 pub fn crypt_in_place<C: Counter>(t: &RoundTable, w: &[u32], first: Block, text: &mut [u8])
     requires in_bounds { 60 ≤ length w.now }
     ensures { text.new ≡ spec.ctr C.inc (cipher 14 w.now) (state first) text.old }
 {
-    crypt_part::<C>(t, w, first, 0, text);
+    let mut j = 0;
+    // Kept: a step is what is left of a block, and the last one may be shorter than 16.
+    while j < text.len() {
+        let e = j + in_block(j % 16, text.len() - j);
+        let c = C::after(first, j / 16);
+        apply(t, w, c, j % 16, &mut text[j..e]);
+        j = e;
+    }
 }

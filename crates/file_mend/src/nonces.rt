@@ -6,6 +6,7 @@ ghost use Rattle.mend_spec.specs.Mend.{in_use, any_in_use};
 
 use file_parts::chunks::chunk_of;
 use file_parts::nonces::{nonce, repeats};
+use octets::slice::equal;
 use vault::record::Combo;
 use vault::sizes::sizes_of;
 
@@ -18,7 +19,7 @@ fn in_use(combo: Combo, x: &[u8], file: &[u8], n: usize) -> bool
     let k = frame::chunks(n);
     for i in 0..k {
         let chunk = chunk_of(combo, file, n, i);
-        if x == &chunk[..w] {
+        if equal(x, &chunk[..w]) {
             return true;
         }
     }

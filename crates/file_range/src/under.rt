@@ -45,6 +45,6 @@ pub fn read_under(
     if let Some(i) = lowest_bad(&keys, file, n, first, e) {
         return Err(Refusal::Chunk(i as u64));
     }
-    write_range(&keys, file, n, from, count, out);
+    write_range(combo, t, &w, mac, file, n, from, count, out);
     Ok(count)
 }

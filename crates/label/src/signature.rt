@@ -6,6 +6,7 @@ ghost use Rattle.hmac.specs.Hmac.{hmac_sha256};
 
 use encoding::base64url::{decode, decoded_length};
 use hmac::mac;
+use octets::slice::equal;
 
 /// Is the third segment that of the MAC of what is signed?
 pub fn signature_right(raw_key: &[u8], signed: &[u8], segment: &[u8]) -> bool
@@ -18,5 +19,5 @@ pub fn signature_right(raw_key: &[u8], signed: &[u8], segment: &[u8]) -> bool
     let mut signature = [0u8; 32];
     decode(segment, false, &mut signature);
     let tag = mac(raw_key, signed, b"", b"");
-    tag == signature
+    equal(&tag, &signature)
 }

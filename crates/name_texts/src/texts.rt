@@ -11,7 +11,7 @@ use crate::checks::NAME_LIMIT;
 use crate::keyed::{open_under, seal_under};
 use answer::Refusal;
 use encoding::base64url;
-use octets::slice::copy_at;
+use octets::slice::{copy_at, equal};
 use sha1_hash::digest;
 use utf8::proper_text;
 
@@ -53,7 +53,7 @@ pub fn is_hash(stored: &[u8], full: &[u8]) -> bool
 {
     let mut hash = [0u8; 32];
     write_hash(full, &mut hash);
-    stored == hash.as_slice()
+    equal(stored, &hash)
 }
 
 // Opens a text in the form of a full name, of a name of n bytes. The name goes to the front of out only where the synthetic IV matches and it is proper

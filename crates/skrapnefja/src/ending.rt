@@ -65,12 +65,14 @@ pub fn end_name(
 {
     match answer {
         Ok(StoredName::Plain(n)) => {
+            let row = end(Ok(n), written);
             *full_length = 0;
-            end(Ok(n), written)
+            row
         }
         Ok(StoredName::Shortened(n, full)) => {
+            let row = end(Ok(n), written);
             *full_length = full as u64;
-            end(Ok(n), written)
+            row
         }
         Err(refusal) => end(Err(refusal), written),
     }

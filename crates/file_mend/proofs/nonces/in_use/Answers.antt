@@ -8,7 +8,6 @@ use lib.ListN.{take}
 use lib.Seq.{length-take-le}
 use borrow.Author.Rules.{rules}
 use Rattle.octets.specs.Bytes.{same}
-use Rattle.octets.proofs.Equality.{pointwise_same}
 use Rattle.frame.specs.Layout.{Sizes}
 use Rattle.frame.proofs.Steps.{all}
 use Rattle.vault.specs.Vault.{sizes_of}
@@ -25,29 +24,29 @@ loop-i-init c =
 pub chunk_of-chunk-requires : goal.chunk_of-chunk-requires
 chunk_of-chunk-requires c = (c.requires, omega (arith, c.chunks-k.ensures))
 
-pub slice_bounds-eq-end : goal.slice_bounds-eq-end
-slice_bounds-eq-end c =
+pub slice_bounds-equal-end : goal.slice_bounds-equal-end
+slice_bounds-equal-end c =
     let a = c.args in
     let n = ap (λ (z : Sizes). z.nonce) c.sizes_of-w.ensures in
     sym (length-take-le c.sizes_of-w.result.nonce _ (omega (arith, n, nonce_in_chunk a.combo, nonce-within a.combo, c.chunk_of-chunk.ensures.1, c.requires)))
 
-pub returns-then-eq : goal.returns-then-eq
-returns-then-eq c =
+pub returns-then-equal : goal.returns-then-equal
+returns-then-equal c =
     let a = c.args in
-    let found : same a.x.now (nonce_in (sizes_of a.combo) a.file.now c.loop-i.i) ≡ c.eq.result =
-    sym (c.eq.ensures ∙ pointwise_same a.x.now (take c.sizes_of-w.result.nonce c.chunk_of-chunk.result.now) ∙ ap₂ (λ (z : Sizes) (l : List ℕ). same a.x.now (take z.nonce l)) c.sizes_of-w.ensures c.chunk_of-chunk.ensures.0) in
+    let found : same a.x.now (nonce_in (sizes_of a.combo) a.file.now c.loop-i.i) ≡ c.equal.result =
+    sym (c.equal.ensures ∙ ap₂ (λ (z : Sizes) (l : List ℕ). same a.x.now (take z.nonce l)) c.sizes_of-w.ensures c.chunk_of-chunk.ensures.0) in
     let k = c.chunks-k.result in
-    let s = found ∙ c.if-eq.true in
+    let s = found ∙ c.if-equal.true in
     let h : c.loop-i.i < k = search rules in
     sym (ap (in_use (sizes_of a.combo) a.x.now a.file.now 0) (sym c.chunks-k.ensures) ∙ c.loop-i.invariant.1 ∙ in_use-next (sizes_of a.combo) a.file.now a.x.now c.loop-i.i k h ∙ rw s)
 
 pub loop-i-preserved : goal.loop-i-preserved
 loop-i-preserved c =
     let a = c.args in
-    let found : same a.x.now (nonce_in (sizes_of a.combo) a.file.now c.loop-i.i) ≡ c.eq.result =
-    sym (c.eq.ensures ∙ pointwise_same a.x.now (take c.sizes_of-w.result.nonce c.chunk_of-chunk.result.now) ∙ ap₂ (λ (z : Sizes) (l : List ℕ). same a.x.now (take z.nonce l)) c.sizes_of-w.ensures c.chunk_of-chunk.ensures.0) in
+    let found : same a.x.now (nonce_in (sizes_of a.combo) a.file.now c.loop-i.i) ≡ c.equal.result =
+    sym (c.equal.ensures ∙ ap₂ (λ (z : Sizes) (l : List ℕ). same a.x.now (take z.nonce l)) c.sizes_of-w.ensures c.chunk_of-chunk.ensures.0) in
     let k = c.chunks-k.result in
-    let s = found ∙ c.if-eq.false in
+    let s = found ∙ c.if-equal.false in
     let h : c.loop-i.i < k = search rules in
     (omega (arith, h), c.loop-i.invariant.1 ∙ in_use-next (sizes_of a.combo) a.file.now a.x.now c.loop-i.i k h ∙ rw s)
 

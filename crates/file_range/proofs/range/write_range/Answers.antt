@@ -34,9 +34,8 @@ open_part-requires c =
     let f = part-fits a.n p w (search rules) (search rules) in
     let e = c.chunk_of-chunk.ensures.1 in
     let b = covers_byte a.from a.count c.loop-done.done (search rules) in
-    let k = a.keys.now in
-    let m = take (sizes_of k.combo).nonce a.file.now in
-    let g = c.requires.by_index (p / 32768) (omega arith) b in record { tagged = (k.content.keyed.1, (k.mac.now, m, p / 32768, ap (good_under k.combo (cipher 14 k.content.w.now) k.mac.now m (p / 32768)) c.chunk_of-chunk.ensures.0 ∙ g)); combo_in_bounds = omega (arith, s, f, e) }
+    let m = take (sizes_of a.combo).nonce a.file.now in
+    let g = c.requires.by_index (p / 32768) (omega arith) b in record { tagged = (c.requires.in_bounds, (a.mac.now, m, p / 32768, ap (good_under a.combo (cipher 14 a.w.now) a.mac.now m (p / 32768)) c.chunk_of-chunk.ensures.0 ∙ g)); combo_in_bounds = omega (arith, s, f, e) }
 
 pub loop-done-smaller : goal.loop-done-smaller
 loop-done-smaller c =
@@ -49,21 +48,19 @@ loop-done-preserved c =
     let w = c.part_len in
     let p = a.from + c.loop-done.done in
     let o = c.open_part in
-    let k = a.keys.now in
-    let plain = plain_under k.combo (cipher 14 k.content.w.now) in
-    let sized = sized_under k.combo k.content.w.now in
+    let plain = plain_under a.combo (cipher 14 a.w.now) in
+    let sized = sized_under a.combo a.w.now in
     let e =
-    turn (sizes_of k.combo) plain sized a.file.now c.loop-done.out a.out.now o.new.out a.n a.from c.loop-done.done w.result (search rules) (search rules) (search rules)
+    turn (sizes_of a.combo) plain sized a.file.now c.loop-done.out a.out.now o.new.out a.n a.from c.loop-done.done w.result (search rules) (search rules) (search rules)
     (search rules) (search rules) c.loop-done.invariant.1 c.loop-done.invariant.2
     (o.ensures
     ∙ ap (λ (x : List ℕ). take (length (take (c.loop-done.done + w.result - c.loop-done.done) (drop c.loop-done.done c.loop-done.out))) (drop (p % 32768) (plain (p / 32768) x)))
     c.chunk_of-chunk.ensures.0) in
-    (search rules, ap length e ∙ filled-clear (sizes_of k.combo) plain sized a.file.now a.out.now a.n a.from (c.loop-done.done + w.result) (search rules) (search rules) (search rules), e)
+    (search rules, ap length e ∙ filled-clear (sizes_of a.combo) plain sized a.file.now a.out.now a.n a.from (c.loop-done.done + w.result) (search rules) (search rules) (search rules), e)
 
 pub returns : goal.returns
 returns c =
     let l = c.loop-done in
     let a = c.args in
-    let k = a.keys.now in
     let e : l.done ≡ a.count = omega arith in
-    l.invariant.2 ∙ ap (λ (n : ℕ). filled (drop a.from (all_parts (sizes_of k.combo) (plain_under k.combo (cipher 14 k.content.w.now)) a.file.now)) n a.out.now) e
+    l.invariant.2 ∙ ap (λ (n : ℕ). filled (drop a.from (all_parts (sizes_of a.combo) (plain_under a.combo (cipher 14 a.w.now)) a.file.now)) n a.out.now) e

@@ -11,9 +11,7 @@ use Rattle.file_parts.specs.Under.{plain_under}
 use Rattle.file_range.proofs.range.write_range.Given as goal
 
 abbrev pub invariant-loop-done : goal.invariant-loop-done
-invariant-loop-done l =
-    let k = l.keys in
-    (l.done ≤ l.count) × (length l.out ≡ length l.initial.out) × (l.out ≡ filled (drop l.from (all_parts (sizes_of k.combo) (plain_under k.combo (cipher 14 k.content.w.now)) l.file)) l.done l.initial.out)
+invariant-loop-done l = (l.done ≤ l.count) × (length l.out ≡ length l.initial.out) × (l.out ≡ filled (drop l.from (all_parts (sizes_of l.combo) (plain_under l.combo (cipher 14 l.w)) l.file)) l.done l.initial.out)
 
 abbrev pub decreases-loop-done : goal.decreases-loop-done
 decreases-loop-done l = l.count - l.done

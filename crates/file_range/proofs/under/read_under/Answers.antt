@@ -17,6 +17,7 @@ use Rattle.vault.specs.Vault.{sizes_of}
 use Rattle.vault.specs.Under.{good_under}
 use Rattle.vault.proofs.Combos.{nonce-within}
 use Rattle.file_parts.specs.Under.{plain_under}
+use borrow.Author.Rules.{rules}
 use Rattle.file_range.proofs.Ends.{lowest_under, under_bad, under_good}
 use Rattle.file_range.proofs.under.read_under.Goals as goal
 
@@ -65,7 +66,7 @@ write_range-requires c =
     λ j l u.
     ap (λ (y : Sizes). good_under x.combo (cipher 14 p) x.mac.now (take y.nonce x.file.now) j (chunk_at z x.file.now j)) (sym c.sizes_of-s.ensures)
     ∙ below_good z (good_under x.combo (cipher 14 p) x.mac.now (take s x.file.now)) x.file.now (x.from / 32768) (e.result - x.from / 32768) j l
-    (omega (arith, e.ensures, c.in_default.ensures, u)) in record { file_len = (c.requires.key_len.1, c.requires.key_len.2, c.requires.key_len.3); by_index = tagged }
+    (omega (arith, e.ensures, c.in_default.ensures, u)) in record { in_bounds = search rules; file_len = (c.requires.key_len.1, c.requires.key_len.2, c.requires.key_len.3); by_index = tagged }
 
 pub returns : goal.returns
 returns c =

@@ -6,7 +6,7 @@ use mathlib.Core.List.{append-nil}
 use native.Mathlib.Omega.{arith}
 use lib.ListN.{length}
 use Rattle.octets.specs.Bytes.{same}
-use Rattle.octets.proofs.Equality.{pointwise_same, same_not}
+use Rattle.octets.proofs.Equality.{same_not}
 use Rattle.octets.proofs.Lists.{placed_all}
 use Rattle.encoding.specs.Base64url.{decoded}
 use Rattle.hmac.specs.Hmac.{hmac_sha256}
@@ -31,4 +31,4 @@ returns c =
     let k = c.args in
     let m = c.mac-tag.ensures ∙ ap (hmac_sha256 k.raw_key.now) (append-nil k.signed.now) in
     let g = c.decode.ensures ∙ placed_all (decoded false k.segment.now) _ (omega (arith, size, c.if-decoded_length-ne32.false)) in
-    c.eq.ensures ∙ pointwise_same _ _ ∙ ap₂ same m g
+    c.equal.ensures ∙ ap₂ same m g
