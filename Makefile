@@ -40,11 +40,12 @@ libraries:
 	for library in skrapnefja primitives; do
 		(cd "crates/$${library}_c" && rt lib)
 		cp "crates/$${library}_c/out/lib$${library}_c.a" "target/staticlib/lib$$library.a"
+		names=$$(nm -u "target/staticlib/lib$$library.a")
+		if grep ' U ' <<< "$$names" | grep -v -w -e memcpy -e memset; then
+			echo "lib$$library.a needs more of the C library than memcpy and memset, which the C header promises" >&2
+			exit 1
+		fi
 	done
-	if nm -u target/staticlib/libskrapnefja.a | grep ' U ' | grep -v -w -e memcpy -e memset; then
-		echo "the library needs more of the C library than memcpy and memset, which the C header promises" >&2
-		exit 1
-	fi
 
 # The check program.
 program:

@@ -19,7 +19,7 @@ const PAGES: usize = 32;
 const CLEAR: u8 = 0xa5;
 
 /// The buffer's first page, the part of it that is looked at, the page that is
-/// to be written next, and whether a whole block of clear bytes was seen.
+/// to be written next, and whether half a block of clear bytes was seen.
 static BASE: AtomicUsize = AtomicUsize::new(0);
 static FROM: AtomicUsize = AtomicUsize::new(0);
 static NEXT: AtomicUsize = AtomicUsize::new(0);
@@ -53,7 +53,7 @@ extern "C" fn next_page(_: c_int) {
     unsafe {
         if from < page * PAGE {
             let written = slice::from_raw_parts(base.add(from), page * PAGE - from);
-            if written.windows(16).any(|block| block == [CLEAR; 16]) {
+            if written.windows(8).any(|half| half == [CLEAR; 8]) {
                 SEEN.store(true, SeqCst);
             }
         }
@@ -121,10 +121,14 @@ fn no_cleartext_in_the_buffer() {
             let n = vault.write_chunk(&key, one, 0, one, &cleartext[..32_768], out);
             assert!(n.is_ok());
         };
-        assert!(!seen(0..PAGES * PAGE, chunk), "of a chunk");
-        // The second page begins in the last bytes of the content key.
-        let start = PAGE - w - 8 - 28;
+        // Each page begins in the middle of a block, as in the file's last chunk.
+        assert!(!seen(24 - w..PAGES * PAGE, chunk), "of a chunk");
         let header = |out: &mut [u8]| assert!(vault.write_header(one, &key, out).is_ok());
-        assert!(!seen(start..2 * PAGE, header), "of a header");
+        // The second page begins in the middle of the content key's second block,
+        // and then in its last bytes.
+        for before in [24, 36] {
+            let start = PAGE - w - before;
+            assert!(!seen(start..2 * PAGE, header), "of a header");
+        }
     }
 }
